@@ -1,0 +1,102 @@
+use crate::{Expr, Name, Pos};
+use sqlite_items::{Boxed, Items};
+
+/// The kind of a value: a number, or a pointer to a function with this many `int` parameters.
+#[derive(Clone, Copy, Debug, PartialEq, Eq)]
+pub enum Kind {
+    Int,
+    Fp(u8),
+}
+
+/// Where a result goes: nowhere, into a name that stands already, or into a local declared here.
+#[derive(Debug, Drop)]
+pub enum Dest {
+    Nowhere,
+    Into(Name),
+    Fresh(Kind, Name),
+}
+
+/// A statement, with the line of its first token.
+#[derive(Debug, Drop)]
+pub enum Stmt {
+    Skip {
+        pos: Pos,
+    },
+    Set {
+        pos: Pos,
+        dest: Dest,
+        value: Expr,
+    },
+    SetElem {
+        pos: Pos,
+        array: Name,
+        index: Expr,
+        value: Expr,
+    },
+    Call {
+        pos: Pos,
+        dest: Dest,
+        callee: Name,
+        args: Items<Expr>,
+    },
+    /// A call through a pointer.
+    CallBy {
+        pos: Pos,
+        dest: Dest,
+        pointer: Name,
+        args: Items<Expr>,
+    },
+    If {
+        pos: Pos,
+        cond: Expr,
+        yes: Items<Stmt>,
+        no: Items<Stmt>,
+    },
+    While {
+        pos: Pos,
+        cond: Expr,
+        body: Items<Stmt>,
+    },
+    Break {
+        pos: Pos,
+    },
+    Return {
+        pos: Pos,
+        value: Option<Expr>,
+    },
+    Assert {
+        pos: Pos,
+        cond: Expr,
+    },
+    /// `client_in()`.
+    Input {
+        pos: Pos,
+        dest: Dest,
+    },
+    /// `client_out(value)`.
+    Output {
+        pos: Pos,
+        value: Expr,
+    },
+    /// `dsu_update(k)`, a point at which an update may happen.
+    Point {
+        pos: Pos,
+        k: u32,
+    },
+    /// `dsu_choice(k)`, which stands in merged programs alone.
+    Choice {
+        pos: Pos,
+        dest: Dest,
+        k: u32,
+    },
+    /// `dsu_force()`, which stands in clients alone.
+    Force {
+        pos: Pos,
+    },
+    /// A client's choice between a call for the time after the update and one for the time before.
+    Pick {
+        pos: Pos,
+        after: Boxed<Stmt>,
+        before: Boxed<Stmt>,
+    },
+}
