@@ -1,7 +1,7 @@
 -- The layout of the merged text of sources of the first form. It is given by its parts: the shared
 -- number, the bodies of both versions and of the transformer, and a position for each line that
 -- has one. From the parts come the lines and the program.
-use Rattle.std.specs.Prelude.{⊤, ◌≡◌, ℕ, ℤ, pos, ◌≤◌, Bool, true, false, List, [], ◌∷◌, ◌++◌, map, All, Some, codes}
+use Rattle.std.specs.Prelude.{⊤, ◌≡◌, ℕ, pos, ◌≤◌, Bool, true, false, List, [], ◌∷◌, ◌++◌, map, All, Some, codes}
 use Rattle.std.specs.List.{flat_map}
 use Rattle.std.specs.Fmt.{decimal}
 use Rattle.c_lang.specs.Names.{Bytes}
@@ -170,12 +170,12 @@ is_set_test name = Bin op.Ne (Var name) (Lit (pos 0))
 abbrev pub expansion : Expansion → ℕ → Stmt
 expansion e k =
     stmt.If e.unless (is_zero_test (codes "dsu_now"))
-      (stmt.Choice e.choice (Fresh kind.Int (codes "dsu_c")) k
-      ∷ stmt.If e.test (is_set_test (codes "dsu_c"))
-        (stmt.Set e.flag (Into (codes "dsu_now")) (Lit (pos 1))
-        ∷ stmt.Call e.call Nowhere (codes "dsu_xform_dsu_transform") []
-        ∷ []) []
-      ∷ []) []
+    (stmt.Choice e.choice (Fresh kind.Int (codes "dsu_c")) k
+    ∷ stmt.If e.test (is_set_test (codes "dsu_c"))
+    (stmt.Set e.flag (Into (codes "dsu_now")) (Lit (pos 1))
+    ∷ stmt.Call e.call Nowhere (codes "dsu_xform_dsu_transform") []
+    ∷ []) []
+    ∷ []) []
 
 abbrev pub piece_statement : Bytes → Piece → Stmt
 piece_statement name (shows p) = stmt.Output p (Var (both_name name))
@@ -194,8 +194,8 @@ returned_call call last callee =
 abbrev pub wrapper_body : Wrapper → List Stmt
 wrapper_body w =
     stmt.If w.test (is_set_test (codes "dsu_now"))
-      (returned_call w.new_call w.new_return (codes "dsu_new_main"))
-      (returned_call w.old_call w.old_return (codes "dsu_old_main"))
+    (returned_call w.new_call w.new_return (codes "dsu_new_main"))
+    (returned_call w.old_call w.old_return (codes "dsu_old_main"))
     ∷ []
 
 abbrev pub transform_body : Bytes → Transform → List Stmt

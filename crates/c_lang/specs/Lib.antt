@@ -1,5 +1,17 @@
 pub mod Names
 pub mod Units
+pub mod Trees
+pub mod Values
+pub mod Evaluation
+pub mod Moves
+pub mod Steps
+pub mod Programs
+pub mod PlainRun
+pub mod Version
+pub mod Home
+pub mod Origin
+pub mod Links
+pub mod UpdatingRun
 pub mod Sources
 pub mod Layout
 pub mod Lines

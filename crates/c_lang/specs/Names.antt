@@ -1,5 +1,5 @@
 -- Names as contracts see them, and what an identifier is.
-use Rattle.std.specs.Prelude.{◌≡◌, ℕ, Bool, true, false, not, ◌&&◌, ◌||◌, ◌==◌, nat_le, nat_eq, bytes_eq, List, [], ◌∷◌, codes}
+use Rattle.std.specs.Prelude.{ℕ, Bool, false, ◌&&◌, ◌||◌, ◌==◌, nat_le, nat_eq, bytes_eq, List, [], ◌∷◌, codes}
 use Rattle.std.specs.List.{list_all, list_any, starts_with}
 
 abbrev pub Bytes : Type 0

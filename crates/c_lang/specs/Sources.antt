@@ -1,7 +1,7 @@
 -- The first form of a source: one number that two versions share, and a `main` that shows it, sets
 -- it and asks for updates; and a transformer that sets it. Each is given by its parts, and from the
 -- parts come its lines and its program.
-use Rattle.std.specs.Prelude.{⊤, ◌≡◌, ℕ, ℤ, pos, ◌+◌, ◌≤◌, Bool, true, false, not, ◌&&◌, bytes_eq, if◌then◌else◌, List, [], ◌∷◌, ◌++◌, map, All, count_by, Some, codes}
+use Rattle.std.specs.Prelude.{⊤, ◌≡◌, ℕ, pos, ◌+◌, ◌≤◌, Bool, true, false, not, ◌&&◌, bytes_eq, if◌then◌else◌, List, [], ◌∷◌, ◌++◌, map, All, count_by, Some, codes}
 use Rattle.std.specs.Fmt.{decimal}
 use Rattle.c_lang.specs.Names.{Bytes, is_word, is_keyword, is_reserved}
 use Rattle.c_lang.specs.declared.unit.Unit.{Unit}
