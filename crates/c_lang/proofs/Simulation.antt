@@ -78,6 +78,11 @@ module _ {D : Type 0} (step : D → Move D) where
   ends_there d is =
       record { by = λ n a. (suc n, omega arith, ap (λ x. follow x a (events_of step n)) is) }
 
+  pub comes_ends : (d e : D) → Comes d e → Ends e → Ends d
+  comes_ends d e p q = record {
+    by = λ n a. let y = q.by n a in let x = p.by y.0 a in (x.0, omega (arith, x.1, y.1), x.2 ∙ y.2);
+  }
+
   move_longer : (m k : ℕ) → ((d : D) (a : List ℤ) → (rest : List Event) × (events_of step k d a ≡ events_of step m d a ++ rest))
       → (x : Move D) (b : List ℤ) → (rest : List Event) × (follow x b (events_of step k) ≡ follow x b (events_of step m) ++ rest)
   move_longer m k more (Goes shown next) b =
@@ -101,6 +106,15 @@ module _ {C D : Type 0} (first : C → Move C) (second : D → Move D) (R : C �
   Matches (Asks shown next) d =
       Waits second d × ((v : ℤ) → (e : D) × (Takes second d v (shown v) e) × R (next v) e)
   Matches Rests d = Ends second d
+
+  -- silent steps may come before
+  pub matches_after : (x : Move C) (d e : D) → Comes second d e → Matches x e → Matches x d
+  matches_after (Goes shown next) d e comes h = (h.0, then_leads second d e h.0 shown comes h.1, h.2)
+  matches_after (Asks shown next) d e comes h = (
+    comes_waits second d e comes h.0,
+    λ v. let t = h.1 v in (t.0, comes_takes second d e t.0 v (shown v) comes t.1, t.2),
+  )
+  matches_after Rests d e comes h = comes_ends second d e comes h
 
   move_follows : (n : ℕ) → ((c : C) (d : D) (a : List ℤ) → R c d → (m : ℕ) × (n ≤ m) × (events_of second m d a ≡ events_of first n c a))
       → (d : D) (x : Move C) (b : List ℤ) → Matches x d → (m : ℕ) × (suc n ≤ m) × (events_of second m d b ≡ follow x b (events_of first n))

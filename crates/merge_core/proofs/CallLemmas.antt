@@ -1,0 +1,172 @@
+-- The functions of the merged program: those of one part, and the wrappers of shared ones.
+use Rattle.std.proofs.Common.{◌≡◌, ℕ, zero, suc, ℤ, pos, negsuc, Bool, true, false, not, ◌&&◌, if◌then◌else◌, List, [], ◌∷◌, ◌++◌, map, Option, Some, None, Result, Ok, Err, refl, sym, ap, ap₂, ◌∙◌, subst, rules, ◌⊎◌, inl, inr, length, arith, append-nil, codes}
+use Rattle.std.specs.Option.{option_map}
+use Rattle.std.specs.Str.{bytes_eq}
+use Rattle.std.proofs.lemmas.Slice.Eq.{bytes_eq-Decides}
+use Rattle.std.proofs.lemmas.List.{map-append}
+use Rattle.c_lang.specs.Names.{Bytes}
+use Rattle.c_lang.specs.Trees.{expression_of}
+use Rattle.c_lang.specs.Values.{Value, Num, Code, Null, Answer, number, is_zero}
+use Rattle.c_lang.specs.Evaluation.{Look, ev, joined}
+use Rattle.c_lang.specs.Moves.{Move, Goes, Asks, Rests}
+use Rattle.c_lang.specs.Steps as steps
+use Rattle.c_lang.specs.Steps.{updated, local_or, Locals, Item, Does, Mark, Frame, Config, Live, Over, after_mark}
+use Rattle.c_lang.specs.Programs.{func_in, no_func}
+use Rattle.c_lang.specs.PlainRun.{Store, PlainFrame, PlainConfig, plain_access, dropped, step}
+use Rattle.c_lang.specs.Version.{Version, is_old}
+use Rattle.c_lang.specs.Version as version
+use Rattle.c_lang.specs.Home.{Home, Linked, same_home, same_linked}
+use Rattle.c_lang.specs.Home as home
+use Rattle.c_lang.specs.Origin.{Origin, may_update}
+use Rattle.c_lang.specs.Origin as origin
+use Rattle.c_lang.specs.UpdatingRun.{World, State, UpdFrame, UpdConfig, put_linked, cell_meaning, function_meaning, version_code, code_of, updating_access, swapped_state, swapped, picked, update, step_updating}
+use Rattle.c_lang.proofs.Simulation.{Leads, Comes, Takes, Waits, Ends, Matches, matches_after, goes_once, leads_on, then_leads, silently, comes_on, takes_once, comes_takes, takes_comes, waits_there, comes_waits, ends_there, Holds}
+use Rattle.c_lang.specs.declared.unit.Pos.{Pos}
+use Rattle.c_lang.specs.declared.event.Trap.{Trap}
+use Rattle.c_lang.specs.declared.event.Trap.TheVariants.{Assert, Index, NullCall}
+use Rattle.c_lang.specs.declared.event.Event.{Event}
+use Rattle.c_lang.specs.declared.event.Event.TheVariants as event
+use Rattle.c_lang.specs.declared.expr.Expr.{Expr}
+use Rattle.c_lang.specs.declared.expr.Expr.TheVariants.{Var, Lit}
+use Rattle.c_lang.specs.declared.expr.Op.TheVariants as op
+use Rattle.c_lang.specs.declared.stmt.Kind.{Kind}
+use Rattle.c_lang.specs.declared.stmt.Kind.TheVariants as kind
+use Rattle.c_lang.specs.declared.stmt.Dest.{Dest}
+use Rattle.c_lang.specs.declared.stmt.Dest.TheVariants.{Nowhere, Into, Fresh}
+use Rattle.c_lang.specs.declared.stmt.Stmt.{Stmt, out-Stmt, roll-Stmt, fold-Stmt, fold_out-Stmt, map-Stmt, out-roll-Stmt}
+use Rattle.c_lang.specs.declared.stmt.Stmt.TheOpen.{Stmt-F}
+use Rattle.c_lang.specs.declared.stmt.Stmt.TheOpen as one
+use Rattle.c_lang.specs.declared.stmt.Stmt.TheVariants as stmt
+use Rattle.c_lang.specs.declared.program.Func.{Func}
+use Rattle.c_lang.specs.declared.program.Program.{Program}
+use Rattle.c_lang.proofs.TreeLemmas.{expression_of-expr_of}
+use Rattle.merge_core.proofs.Renaming.{under, renamed, renamed_dest, stmt_under}
+use Rattle.merge_core.proofs.MergedStatements.{now_name, choice_name, result_name, transform_name, is_nil, is_set, swap_body, point_body, hand_on, hand, wrapper_body, merged_layer, merged_stmt, merged_item}
+use Rattle.merge_core.proofs.EvaluationRenamed.{renamed_value, renamed_answer, number-renamed, Carries, ev-renamed, ev-Var, ev-Lit, ev-test}
+use Rattle.merge_core.proofs.Relation.{Naming, Merging, is_there, flag, transform_function}
+use Rattle.merge_core.proofs.FrameLemmas.{IsMerged}
+
+module _ (M : Merging) where
+  abbrev W : World
+  W = M.world
+
+  abbrev ρ : Origin → Bytes → Bytes
+  ρ = M.variable_name
+
+  abbrev κ : Origin → Bytes → Bytes
+  κ = M.function_name
+
+  abbrev κ' : Linked → Bytes
+  κ' = M.value_name
+
+  abbrev names : Naming W ρ κ κ'
+  names = M.naming
+
+  abbrev P : Program
+  P = M.program
+
+  abbrev value' : Value Linked → Value Bytes
+  value' = renamed_value κ'
+
+  -- ---- wrappers
+
+  abbrev pub Params : Type 0
+  Params = List (Kind × Bytes)
+
+  abbrev pub Apart : Bytes → Params → Type 0
+  Apart k [] = Unit {0}
+  Apart k (p ∷ ps) = (bytes_eq k p.1 ≡ false) × Apart k ps
+
+  abbrev pub Distinct : Params → Type 0
+  Distinct [] = Unit {0}
+  Distinct (p ∷ ps) = Apart p.1 ps × Distinct ps
+
+  abbrev pub NoFlag : Params → Type 0
+  NoFlag [] = Unit {0}
+  NoFlag (p ∷ ps) = (bytes_eq p.1 now_name ≡ false) × NoFlag ps
+
+  -- the wrapper of a shared function, and the two functions that it calls
+  pub record IsWrapper (x : Bytes) : Type 0 where
+    pub at : Pos
+    pub body : (func_in P.funcs (κ' (home.Both, x))).body ≡ wrapper_body at (func_in P.funcs (κ' (home.Both, x))).gives (κ' (home.New, x)) (κ' (home.Old, x)) (func_in P.funcs (κ' (home.Both, x))).params
+    pub distinct : Distinct (func_in P.funcs (κ' (home.Both, x))).params
+    pub no_flag : NoFlag (func_in P.funcs (κ' (home.Both, x))).params
+    pub old : IsMerged M origin.Old (func_in W.first.funcs x) (func_in P.funcs (κ' (home.Old, x)))
+    pub new : IsMerged M origin.New (func_in W.second.funcs x) (func_in P.funcs (κ' (home.New, x)))
+    pub old_params : length (func_in P.funcs (κ' (home.Old, x))).params ≡ length (func_in P.funcs (κ' (home.Both, x))).params
+    pub new_params : length (func_in P.funcs (κ' (home.New, x))).params ≡ length (func_in P.funcs (κ' (home.Both, x))).params
+    pub old_gives : (func_in W.first.funcs x).gives ≡ (func_in P.funcs (κ' (home.Both, x))).gives
+    pub new_gives : (func_in W.second.funcs x).gives ≡ (func_in P.funcs (κ' (home.Both, x))).gives
+
+  abbrev pub IsDirect : Version → Linked → Type 0
+  IsDirect now c = IsMerged M (code_of W now c).0 (code_of W now c).1 (func_in P.funcs (κ' c))
+
+  abbrev pub IsCallable : Version → Linked → Type 0
+  IsCallable now (home.Both, x) = IsWrapper x
+  IsCallable now (home.Old, x) = IsDirect now (home.Old, x)
+  IsCallable now (home.New, x) = IsDirect now (home.New, x)
+  IsCallable now (home.Xform, x) = IsDirect now (home.Xform, x)
+  IsCallable now (home.Client, x) = IsDirect now (home.Client, x)
+  IsCallable now (home.Unlinked, x) = IsDirect now (home.Unlinked, x)
+
+  -- as many values as parameters, 0 where there is none
+  abbrev pub pad : Params → List (Value Bytes) → List (Value Bytes)
+  pad [] vs = []
+  pad (p ∷ ps) [] = Num (pos 0) ∷ pad ps []
+  pad (p ∷ ps) (v ∷ vs) = v ∷ pad ps vs
+
+  pub bound-pad : (ps rs : Params) (vs : List (Value Bytes)) (x : Bytes) → length ps ≡ length rs → steps.bound ps (pad rs vs) x ≡ steps.bound ps vs x
+  bound-pad [] [] vs x e = refl
+  bound-pad [] (r ∷ rs) vs x e = absurd (omega arith)
+  bound-pad (p ∷ ps) [] vs x e = absurd (omega arith)
+  bound-pad (p ∷ ps) (r ∷ rs) [] x e = ap (λ z. if bytes_eq p.1 x then Some (Num (pos 0)) else z) (bound-pad ps rs [] x (omega arith))
+  bound-pad (p ∷ ps) (r ∷ rs) (v ∷ vs) x e = ap (λ z. if bytes_eq p.1 x then Some v else z) (bound-pad ps rs vs x (omega arith))
+
+  abbrev pub AllAre : Locals Bytes → Params → List (Value Bytes) → Type 0
+  AllAre l [] us = us ≡ []
+  AllAre l (p ∷ ps) [] = ⊥
+  AllAre l (p ∷ ps) (u ∷ us) = (l p.1 ≡ Some u) × AllAre l ps us
+
+  all_updated : (l : Locals Bytes) (k : Bytes) (w : Option (Value Bytes)) (ps : Params) (us : List (Value Bytes)) → Apart k ps → AllAre l ps us → AllAre (updated l k w) ps us
+  all_updated l k w [] us a h = h
+  all_updated l k w (p ∷ ps) [] a h = h
+  all_updated l k w (p ∷ ps) (u ∷ us) a h = (ap (λ b. if b then w else l p.1) a.0 ∙ h.0, all_updated l k w ps us a.1 h.1)
+
+  at_key : (l : Locals Bytes) (k : Bytes) (w : Option (Value Bytes)) → updated l k w k ≡ w
+  at_key l k w = ap (λ b. if b then w else l k) ((bytes_eq-Decides k k).1 refl)
+
+  pub all_bound : (ps : Params) (vs : List (Value Bytes)) → Distinct ps → AllAre (steps.bound ps vs) ps (pad ps vs)
+  all_bound [] vs h = refl
+  all_bound (p ∷ ps) [] h = (at_key (steps.bound ps []) p.1 (Some (Num (pos 0))), all_updated (steps.bound ps []) p.1 _ ps (pad ps []) h.0 (all_bound ps [] h.1))
+  all_bound (p ∷ ps) (v ∷ vs) h = (at_key (steps.bound ps vs) p.1 (Some v), all_updated (steps.bound ps vs) p.1 _ ps (pad ps vs) h.0 (all_bound ps vs h.1))
+
+  pub no_flag-bound : (ps : Params) (vs : List (Value Bytes)) → NoFlag ps → steps.bound ps vs now_name ≡ None
+  no_flag-bound [] vs h = refl
+  no_flag-bound (p ∷ ps) [] h = ap (λ b. if b then Some (Num (pos 0)) else steps.bound ps [] now_name) h.0 ∙ no_flag-bound ps [] h.1
+  no_flag-bound (p ∷ ps) (v ∷ vs) h = ap (λ b. if b then Some v else steps.bound ps vs now_name) h.0 ∙ no_flag-bound ps vs h.1
+
+  pub read_args : (s : Store) (w : PlainFrame) (ps : Params) (us : List (Value Bytes)) → AllAre w.locals ps us
+      → steps.values_of (plain_access P) s w (map (λ p. Var p.1) ps) ≡ Ok us
+  read_args s w [] us h = ap Ok (sym h)
+  read_args s w (p ∷ ps) [] h = absurd h
+  read_args s w (p ∷ ps) (u ∷ us) h =
+      ap₂ (steps.and_values (plain_access P))
+      (ev-Var bytes_eq (steps.look (plain_access P) s w) p.1 ∙ ap (λ o. Ok (local_or o (s.values p.1))) h.0)
+      (read_args s w ps us h.1)
+
+  -- every function that a frame may name, and that its body's cells are there
+  pub record HasFuncs : Type 0 where
+    pub callable : (o : Origin) (now : Version) (h : Bytes) → ((x : Bytes) → is_there now (cell_meaning W o x).0 ≡ true) → IsCallable now (function_meaning W o now h)
+    pub there : (o : Origin) (now : Version) (h : Bytes) → ((x : Bytes) → is_there now (cell_meaning W o x).0 ≡ true)
+        → (y : Bytes) → is_there now (cell_meaning W (code_of W now (function_meaning W o now h)).0 y).0 ≡ true
+
+  -- a value that a call through a pointer may meet now
+  abbrev pub MayCall : Version → Value Linked → Type 0
+  MayCall now (Num z) = Unit {0}
+  MayCall now Null = Unit {0}
+  MayCall now (Code k) = IsCallable now k × ((y : Bytes) → is_there now (cell_meaning W (code_of W now k).0 y).0 ≡ true)
+
+  -- what the next statement needs
+  abbrev pub IsReady : State → UpdFrame → Stmt-F Stmt → Type 0
+  IsReady g f (one.CallBy p d x es) = MayCall g.now ((steps.look (updating_access W) g f).value x)
+  IsReady g f l = Unit {0}

@@ -1,0 +1,393 @@
+-- Every function that is a value of the updating run may be called, so the merged program shows what
+-- the updating run shows.
+use Rattle.std.proofs.Common.{◌≡◌, ℕ, zero, suc, ℤ, pos, negsuc, Bool, true, false, not, ◌&&◌, if◌then◌else◌, List, [], ◌∷◌, ◌++◌, map, Option, Some, None, Result, Ok, Err, refl, sym, ap, ap₂, ◌∙◌, subst, rules, ◌⊎◌, inl, inr, length, arith, append-nil, codes, slice_get, int_lt, int_le, int_div, int_rem, ◌+ℤ◌, ◌-ℤ◌, ◌*ℤ◌, ◌||◌, ◌↔◌}
+use Rattle.std.specs.Option.{option_map}
+use Rattle.std.specs.Str.{bytes_eq}
+use Rattle.std.proofs.lemmas.Slice.Eq.{bytes_eq-Decides}
+use Rattle.std.proofs.lemmas.List.{map-append}
+use Rattle.c_lang.specs.Names.{Bytes}
+use Rattle.c_lang.specs.Trees.{Expression, literal, variable, element, function, null, negation, logical_not, binary, expression_of}
+use Rattle.c_lang.specs.Values.{Value, Num, Code, Null, Answer, number, is_zero, in_range, truth, fits_int, negated, sum, difference, product, quotient, remainder}
+use Rattle.c_lang.specs.Evaluation.{Look, and_then, element_at, found_element, same_value, applied, ev, joined}
+use Rattle.c_lang.specs.Moves.{Move, Goes, Asks, Rests, Shows}
+use Rattle.c_lang.specs.Steps as steps
+use Rattle.c_lang.specs.Steps.{updated, local_or, Locals, Item, Does, Mark, Frame, Config, Live, Over, after_mark}
+use Rattle.c_lang.specs.Programs.{func_in, no_func, global_named, initial_value}
+use Rattle.c_lang.specs.PlainRun.{Store, PlainFrame, PlainConfig, plain_access, dropped, step}
+use Rattle.c_lang.specs.Version.{Version, is_old}
+use Rattle.c_lang.specs.Version as version
+use Rattle.c_lang.specs.Home.{Home, Linked, same_home, same_linked}
+use Rattle.c_lang.specs.Home as home
+use Rattle.c_lang.specs.Origin.{Origin, may_update}
+use Rattle.c_lang.specs.Origin as origin
+use Rattle.c_lang.specs.UpdatingRun.{World, State, UpdFrame, UpdConfig, put_linked, cell_meaning, function_meaning, version_code, code_of, updating_access, swapped_state, swapped, picked, update, step_updating}
+use Rattle.c_lang.proofs.Simulation.{Leads, Comes, Takes, Waits, Ends, Matches, matches_after, goes_once, leads_on, then_leads, silently, comes_on, takes_once, comes_takes, takes_comes, waits_there, comes_waits, ends_there, Holds, same_from}
+use Rattle.c_lang.specs.declared.unit.Pos.{Pos}
+use Rattle.c_lang.specs.declared.event.Trap.{Trap}
+use Rattle.c_lang.specs.declared.event.Trap.TheVariants.{Assert, Index, NullCall, Overflow, Divide}
+use Rattle.c_lang.specs.declared.event.Event.{Event}
+use Rattle.c_lang.specs.declared.event.Event.TheVariants as event
+use Rattle.c_lang.specs.declared.expr.Expr.{Expr}
+use Rattle.c_lang.specs.declared.expr.Expr.TheVariants.{Var, Lit}
+use Rattle.c_lang.specs.declared.expr.Op.{Op}
+use Rattle.c_lang.specs.declared.expr.Op.TheVariants as op
+use Rattle.c_lang.specs.declared.stmt.Kind.{Kind}
+use Rattle.c_lang.specs.declared.stmt.Kind.TheVariants as kind
+use Rattle.c_lang.specs.declared.stmt.Dest.{Dest}
+use Rattle.c_lang.specs.declared.stmt.Dest.TheVariants.{Nowhere, Into, Fresh}
+use Rattle.c_lang.specs.declared.stmt.Stmt.{Stmt, out-Stmt, roll-Stmt, fold-Stmt, fold_out-Stmt, map-Stmt, out-roll-Stmt}
+use Rattle.c_lang.specs.declared.stmt.Stmt.TheOpen.{Stmt-F}
+use Rattle.c_lang.specs.declared.stmt.Stmt.TheOpen as one
+use Rattle.c_lang.specs.declared.stmt.Stmt.TheVariants as stmt
+use Rattle.c_lang.specs.declared.program.Func.{Func}
+use Rattle.c_lang.specs.declared.program.Program.{Program}
+use Rattle.c_lang.proofs.TreeLemmas.{expression_of-expr_of}
+use Rattle.merge_core.proofs.Renaming.{under, renamed, renamed_dest, stmt_under}
+use Rattle.merge_core.proofs.MergedStatements.{now_name, choice_name, result_name, transform_name, is_nil, is_set, swap_body, point_body, hand_on, hand, wrapper_body, merged_layer, merged_stmt, merged_item}
+use Rattle.merge_core.proofs.EvaluationRenamed.{renamed_value, renamed_answer, number-renamed, Carries, ev-renamed, ev-Var, ev-Lit, ev-test}
+use Rattle.merge_core.proofs.Relation.{Naming, Merging, is_there, R, transform_function}
+use Rattle.merge_core.proofs.FrameLemmas.{HasTransform}
+use Rattle.merge_core.proofs.CallLemmas.{HasFuncs, MayCall, IsCallable, IsReady}
+use Rattle.merge_core.proofs.StatementLemmas.{IsReadyFor, matched}
+
+module _ (M : Merging) where
+  abbrev W : World
+  W = M.world
+
+  abbrev ρ : Origin → Bytes → Bytes
+  ρ = M.variable_name
+
+  abbrev κ : Origin → Bytes → Bytes
+  κ = M.function_name
+
+  abbrev κ' : Linked → Bytes
+  κ' = M.value_name
+
+  abbrev names : Naming W ρ κ κ'
+  names = M.naming
+
+  abbrev P : Program
+  P = M.program
+
+  abbrev pub May : Version → Value Linked → Type 0
+  May = MayCall M
+
+  abbrev GoodAnswer : Version → Answer Linked → Type 0
+  GoodAnswer now (Ok v) = May now v
+  GoodAnswer now (Err t) = Unit {0}
+
+  good_if : (now : Version) (b : Bool) (x y : Answer Linked) → GoodAnswer now x → GoodAnswer now y → GoodAnswer now (if b then x else y)
+  good_if now true x y h k = h
+  good_if now false x y h k = k
+
+  good_then : (now : Version) (a : Answer Linked) (go : Value Linked → Answer Linked) → GoodAnswer now a → ((v : Value Linked) → GoodAnswer now (go v)) → GoodAnswer now (and_then a go)
+  good_then now (Ok v) go h k = k v
+  good_then now (Err t) go h k = tt
+
+  good_range : (now : Version) (z : ℤ) → GoodAnswer now (in_range z)
+  good_range now z = good_if now (fits_int z) (Ok (Num z)) (Err Overflow) tt tt
+
+  good_at : (now : Version) (o : Option ℤ) → GoodAnswer now (found_element o)
+  good_at now (Some z) = tt
+  good_at now None = tt
+
+  good_element : (now : Version) (row : List ℤ) (z : ℤ) → GoodAnswer now (element_at row z)
+  good_element now row (pos n) = good_at now (slice_get row n)
+  good_element now row (negsuc n) = tt
+
+  good_applied : (now : Version) (o : Op) (v w : Value Linked) → GoodAnswer now (applied same_linked o v w)
+  good_applied now op.Mul v w = good_range now (number v *ℤ number w)
+  good_applied now op.Div v w = good_if now (is_zero (number w)) (Err Divide) (in_range (int_div (number v) (number w))) tt (good_range now (int_div (number v) (number w)))
+  good_applied now op.Rem v w =
+      good_if now (is_zero (number w)) (Err Divide) (if fits_int (int_div (number v) (number w)) then Ok (Num (int_rem (number v) (number w))) else Err Overflow) tt
+      (good_if now (fits_int (int_div (number v) (number w))) (Ok (Num (int_rem (number v) (number w)))) (Err Overflow) tt tt)
+  good_applied now op.Add v w = good_range now (number v +ℤ number w)
+  good_applied now op.Sub v w = good_range now (number v -ℤ number w)
+  good_applied now op.Lt v w = tt
+  good_applied now op.Le v w = tt
+  good_applied now op.Gt v w = tt
+  good_applied now op.Ge v w = tt
+  good_applied now op.Eq v w = tt
+  good_applied now op.Ne v w = tt
+  good_applied now op.And v w = tt
+  good_applied now op.Or v w = tt
+
+  strict : (now : Version) (o : Op) (a b : Answer Linked) → GoodAnswer now a → GoodAnswer now b → GoodAnswer now (and_then a (λ v. and_then b (λ w. applied same_linked o v w)))
+  strict now o a b h k = good_then now a (λ v. and_then b (λ w. applied same_linked o v w)) h (λ v. good_then now b (λ w. applied same_linked o v w) k (λ w. good_applied now o v w))
+
+  good_joined : (now : Version) (o : Op) (a b : Answer Linked) → GoodAnswer now a → GoodAnswer now b → GoodAnswer now (joined same_linked o a b)
+  good_joined now op.And a b h k = good_then now a (λ v. if is_zero (number v) then truth false else and_then b (λ w. truth (not (is_zero (number w))))) h (λ v.
+      good_if now (is_zero (number v)) (truth false) (and_then b (λ w. truth (not (is_zero (number w))))) tt (good_then now b (λ w. truth (not (is_zero (number w)))) k (λ w. tt)))
+  good_joined now op.Or a b h k = good_then now a (λ v. if is_zero (number v) then and_then b (λ w. truth (not (is_zero (number w)))) else truth true) h (λ v.
+      good_if now (is_zero (number v)) (and_then b (λ w. truth (not (is_zero (number w))))) (truth true) (good_then now b (λ w. truth (not (is_zero (number w)))) k (λ w. tt)) tt)
+  good_joined now op.Mul a b h k = strict now op.Mul a b h k
+  good_joined now op.Div a b h k = strict now op.Div a b h k
+  good_joined now op.Rem a b h k = strict now op.Rem a b h k
+  good_joined now op.Add a b h k = strict now op.Add a b h k
+  good_joined now op.Sub a b h k = strict now op.Sub a b h k
+  good_joined now op.Lt a b h k = strict now op.Lt a b h k
+  good_joined now op.Le a b h k = strict now op.Le a b h k
+  good_joined now op.Gt a b h k = strict now op.Gt a b h k
+  good_joined now op.Ge a b h k = strict now op.Ge a b h k
+  good_joined now op.Eq a b h k = strict now op.Eq a b h k
+  good_joined now op.Ne a b h k = strict now op.Ne a b h k
+
+  module _ (now : Version) (l : Look Linked) (values : (x : Bytes) → May now (l.value x)) (codes : (f : Bytes) → May now (Code (l.code f))) where
+    good_ev : (e : Expression) → GoodAnswer now (ev same_linked l e)
+    good_ev (literal z) = tt
+    good_ev (variable x) = values x
+    good_ev (element a i) = good_then now (ev same_linked l i) (λ v. element_at (l.row a) (number v)) (good_ev i) (λ v. good_element now (l.row a) (number v))
+    good_ev (function f) = codes f
+    good_ev null = tt
+    good_ev (negation e) = good_then now (ev same_linked l e) (λ v. negated (number v)) (good_ev e) (λ v. good_range now (pos 0 -ℤ number v))
+    good_ev (logical_not e) = good_then now (ev same_linked l e) (λ v. truth (is_zero (number v))) (good_ev e) (λ v. tt)
+    good_ev (binary o a b) = good_joined now o (ev same_linked l a) (ev same_linked l b) (good_ev a) (good_ev b)
+
+  -- a swap only widens it
+  later : (v : Value Linked) → May version.Old v → May version.New v
+  later (Num z) h = tt
+  later Null h = tt
+  later (Code (home.Both, x)) h = (h.0, λ y. refl)
+  later (Code (home.Old, x)) h = (h.0, λ y. refl)
+  later (Code (home.New, x)) h = (h.0, λ y. refl)
+  later (Code (home.Xform, x)) h = (h.0, λ y. refl)
+  later (Code (home.Client, x)) h = (h.0, λ y. refl)
+  later (Code (home.Unlinked, x)) h = (h.0, λ y. refl)
+
+  abbrev pub GoodLocal : Version → Option (Value Linked) → Type 0
+  GoodLocal now None = Unit {0}
+  GoodLocal now (Some v) = May now v
+
+  pub record GoodFrame (now : Version) (f : UpdFrame) : Type 0 where
+    pub there : (x : Bytes) → is_there now (cell_meaning W f.origin x).0 ≡ true
+    pub locals : (x : Bytes) → GoodLocal now (f.locals x)
+
+  abbrev pub GoodState : State → Type 0
+  GoodState g = (h : Home) (x : Bytes) → May g.now (g.values h x)
+
+  good_read : (now : Version) (o : Option (Value Linked)) (v : Value Linked) → GoodLocal now o → May now v → May now (local_or o v)
+  good_read now None v h k = k
+  good_read now (Some w) v h k = h
+
+  -- so a call through a pointer may be made, in each frame of a good configuration
+  good_look : (g : State) (f : UpdFrame) → GoodState g → GoodFrame g.now f → (x : Bytes) → May g.now ((steps.look (updating_access W) g f).value x)
+  good_look g f s h x = let k = cell_meaning W f.origin x in good_read g.now (f.locals x) (g.values k.0 k.1) (h.locals x) (s k.0 k.1)
+
+  module _ (funcs : HasFuncs M) where
+    good_value : (g : State) (f : UpdFrame) → GoodState g → GoodFrame g.now f → (e : Expr) → GoodAnswer g.now (steps.value_of (updating_access W) g f e)
+    good_value g f s h e = good_ev g.now (steps.look (updating_access W) g f) (good_look g f s h)
+        (λ x. (funcs.callable f.origin g.now x h.there, funcs.there f.origin g.now x h.there)) (expression_of e)
+
+    chosen_may : (now : Version) (b : Bool) (v w : Value Linked) → May now v → May now w → May now (if b then v else w)
+    chosen_may now true v w h k = h
+    chosen_may now false v w h k = k
+
+    good_put : (g : State) (f : UpdFrame) (x : Bytes) (v : Value Linked) → GoodState g → May g.now v → GoodState ((updating_access W).put f.origin x v g)
+    good_put g f x v s h = λ q y. chosen_may g.now (same_linked (cell_meaning W f.origin x) (q, y)) v (g.values q y) h (s q y)
+
+    -- ---- configurations
+
+    abbrev pub GoodFrames : Version → List UpdFrame → Type 0
+    GoodFrames now [] = Unit {0}
+    GoodFrames now (f ∷ fs) = GoodFrame now f × GoodFrames now fs
+
+    abbrev pub Good : UpdConfig → Type 0
+    Good Over = Unit {0}
+    Good (Live g f fs) = GoodState g × GoodFrame g.now f × GoodFrames g.now fs
+
+    abbrev pub HoldsU : Move (UpdConfig) → Type 0
+    HoldsU = Holds Good
+
+    good_local : (now : Version) (b : Bool) (v : Value Linked) (o : Option (Value Linked)) → May now v → GoodLocal now o → GoodLocal now (if b then Some v else o)
+    good_local now true v o h k = h
+    good_local now false v o h k = k
+
+    with_local : (now : Version) (f : UpdFrame) (x : Bytes) (v : Value Linked) → GoodFrame now f → May now v → GoodFrame now (record f { locals = updated f.locals x (Some v) })
+    with_local now f x v h k = record { there = h.there; locals = λ y. good_local now (bytes_eq x y) v (f.locals y) k (h.locals y) }
+
+    good_into : (o : Option (Value Linked)) (g : State) (f : UpdFrame) (fs : List UpdFrame) (x : Bytes) (v : Value Linked) → GoodState g → GoodFrame g.now f → GoodFrames g.now fs → May g.now v
+        → Good (steps.into (updating_access W) o g f fs x v)
+    good_into None g f fs x v s h k m = (good_put g f x v s m, h, k)
+    good_into (Some w) g f fs x v s h k m = (s, with_local g.now f x v h m, k)
+
+    good_stored : (g : State) (f : UpdFrame) (fs : List UpdFrame) (d : Dest) (v : Value Linked) → GoodState g → GoodFrame g.now f → GoodFrames g.now fs → May g.now v
+        → Good (steps.stored (updating_access W) g f fs d v)
+    good_stored g f fs Nowhere v s h k m = (s, h, k)
+    good_stored g f fs (Into x) v s h k m = good_into (f.locals x) g f fs x v s h k m
+    good_stored g f fs (Fresh t x) v s h k m = (s, with_local g.now f x v h m, k)
+
+    good_handed : (g : State) (b : Bool) (d : Dest) (v : Value Linked) (fs : List UpdFrame) → GoodState g → GoodFrames g.now fs → May g.now v
+        → HoldsU (steps.handed (updating_access W) g d (steps.given (updating_access W) b v) fs)
+    good_handed g b d v [] s k m = tt
+    good_handed g true d v (f ∷ fs) s k m = good_stored g f fs d v s k.0 k.1 m
+    good_handed g false d v (f ∷ fs) s k m = good_stored g f fs d (Num (pos 0)) s k.0 k.1 tt
+
+    abbrev AllMay : Version → List (Value Linked) → Type 0
+    AllMay now [] = Unit {0}
+    AllMay now (v ∷ vs) = May now v × AllMay now vs
+
+    good_bound : (now : Version) (ps : List (Kind × Bytes)) (vs : List (Value Linked)) → AllMay now vs → (x : Bytes) → GoodLocal now (steps.bound ps vs x)
+    good_bound now [] vs h x = tt
+    good_bound now (p ∷ ps) [] h x = good_local now (bytes_eq p.1 x) (Num (pos 0)) (steps.bound ps [] x) tt (good_bound now ps [] tt x)
+    good_bound now (p ∷ ps) (v ∷ vs) h x = good_local now (bytes_eq p.1 x) v (steps.bound ps vs x) h.0 (good_bound now ps vs h.1 x)
+
+    abbrev GoodAnswers : Version → Result (List (Value Linked)) Trap → Type 0
+    GoodAnswers now (Ok vs) = AllMay now vs
+    GoodAnswers now (Err t) = Unit {0}
+
+    good_and : (now : Version) (a : Answer Linked) (r : Result (List (Value Linked)) Trap) → GoodAnswer now a → GoodAnswers now r → GoodAnswers now (steps.and_values (updating_access W) a r)
+    good_and now (Err t) r h k = tt
+    good_and now (Ok v) (Err t) h k = tt
+    good_and now (Ok v) (Ok vs) h k = (h, k)
+
+    good_values : (g : State) (f : UpdFrame) → GoodState g → GoodFrame g.now f → (es : List Expr) → GoodAnswers g.now (steps.values_of (updating_access W) g f es)
+    good_values g f s h [] = tt
+    good_values g f s h (e ∷ es) = good_and g.now (steps.value_of (updating_access W) g f e) (steps.values_of (updating_access W) g f es) (good_value g f s h e) (good_values g f s h es)
+
+    good_with : (now : Version) (a : Answer Linked) (p : Pos) (go : Value Linked → Move (UpdConfig)) → GoodAnswer now a → ((v : Value Linked) → May now v → HoldsU (go v)) → HoldsU (steps.with (updating_access W) a p go)
+    good_with now (Ok v) p go h k = k v h
+    good_with now (Err t) p go h k = tt
+
+    good_withs : (now : Version) (a : Result (List (Value Linked)) Trap) (p : Pos) (go : List (Value Linked) → Move (UpdConfig)) → GoodAnswers now a → ((vs : List (Value Linked)) → AllMay now vs → HoldsU (go vs)) → HoldsU (steps.with (updating_access W) a p go)
+    good_withs now (Ok vs) p go h k = k vs h
+    good_withs now (Err t) p go h k = tt
+
+    good_entered : (g : State) (f : UpdFrame) (fs : List UpdFrame) (k : Linked) (vs : List (Value Linked)) (d : Dest) → GoodState g → GoodFrame g.now f → GoodFrames g.now fs → May g.now (Code k) → AllMay g.now vs
+        → HoldsU (steps.entered (updating_access W) g f fs k vs d)
+    good_entered g f fs k vs d s h r m a = (s, record { there = m.1; locals = good_bound g.now (code_of W g.now k).1.params vs a }, (h, r))
+
+    good_pointer : (v : Value Linked) (g : State) (f : UpdFrame) (fs : List UpdFrame) (vs : List (Value Linked)) (d : Dest) (p : Pos) → May g.now v → GoodState g → GoodFrame g.now f → GoodFrames g.now fs → AllMay g.now vs
+        → HoldsU (steps.by_pointer (updating_access W) v g f fs vs d p)
+    good_pointer (Num z) g f fs vs d p m s h r a = tt
+    good_pointer Null g f fs vs d p m s h r a = tt
+    good_pointer (Code k) g f fs vs d p m s h r a = good_entered g f fs k vs d s h r m a
+
+    -- ---- a swap
+
+    widen : (now : Version) (v : Value Linked) → May now v → May version.New v
+    widen version.Old v h = later v h
+    widen version.New v h = h
+
+    widen_local : (now : Version) (o : Option (Value Linked)) → GoodLocal now o → GoodLocal version.New o
+    widen_local now None h = tt
+    widen_local now (Some v) h = widen now v h
+
+    widen_frame : (now : Version) (f : UpdFrame) → GoodFrame now f → GoodFrame version.New f
+    widen_frame now f h = record { there = λ x. refl; locals = λ x. widen_local now (f.locals x) (h.locals x) }
+
+    widen_frames : (now : Version) (fs : List UpdFrame) → GoodFrames now fs → GoodFrames version.New fs
+    widen_frames now [] h = tt
+    widen_frames now (f ∷ fs) h = (widen_frame now f h.0, widen_frames now fs h.1)
+
+    module _ (initial : (x : Bytes) → May version.New (initial_value (function_meaning W origin.New version.New) (global_named W.second.globals x))) where
+      good_swapped_state : (g : State) → GoodState g → GoodState (swapped_state W g)
+      good_swapped_state g s home.New x = initial x
+      good_swapped_state g s home.Both x = widen g.now (g.values home.Both x) (s home.Both x)
+      good_swapped_state g s home.Old x = widen g.now (g.values home.Old x) (s home.Old x)
+      good_swapped_state g s home.Xform x = widen g.now (g.values home.Xform x) (s home.Xform x)
+      good_swapped_state g s home.Client x = widen g.now (g.values home.Client x) (s home.Client x)
+      good_swapped_state g s home.Unlinked x = widen g.now (g.values home.Unlinked x) (s home.Unlinked x)
+
+      good_swapped : (g : State) (f : UpdFrame) (fs : List UpdFrame) → GoodState g → GoodFrame g.now f → GoodFrames g.now fs → Good (swapped W g f fs)
+      good_swapped g f fs s h r = (
+        good_swapped_state g s,
+        record { there = λ x. refl; locals = good_bound version.New (code_of W version.New (home.Xform, transform_function)).1.params [] tt },
+        (widen_frame g.now f h, widen_frames g.now fs r),
+      )
+
+      good_choice : (b : Bool) (x y : UpdConfig) → Good x → Good y → Good (if b then x else y)
+      good_choice true x y h k = h
+      good_choice false x y h k = k
+
+      good_test : (b : Bool) (x y : Move (UpdConfig)) → HoldsU x → HoldsU y → HoldsU (if b then x else y)
+      good_test true x y h k = h
+      good_test false x y h k = k
+
+      good_row : (o : Option (List ℤ)) (p : Pos) (go : List ℤ → Move (UpdConfig)) → ((row : List ℤ) → HoldsU (go row)) → HoldsU (steps.with_row (updating_access W) o p go)
+      good_row (Some row) p go k = k row
+      good_row None p go k = tt
+
+      module _ (g : State) (f : UpdFrame) (fs : List UpdFrame) (s : GoodState g) (h : GoodFrame g.now f) (r : GoodFrames g.now fs) where
+        abbrev pub NU : steps.Access Linked State Origin
+        NU = updating_access W
+
+        same_look : (new : List Item) → GoodFrame g.now (record f { items = new })
+        same_look new = record { there = h.there; locals = h.locals }
+
+        good_called : (p : Pos) (d : Dest) (x : Bytes) (es : List Expr) → HoldsU (steps.with NU (steps.values_of NU g f es) p (λ vs. steps.entered NU g f fs (NU.code f.origin g x) vs d))
+        good_called p d x es = good_withs g.now (steps.values_of NU g f es) p (λ vs. steps.entered NU g f fs (NU.code f.origin g x) vs d) (good_values g f s h es) (λ vs a.
+            good_entered g f fs (NU.code f.origin g x) vs d s h r (funcs.callable f.origin g.now x h.there, funcs.there f.origin g.now x h.there) a)
+
+        good_picked : (st : Stmt) (l : Stmt-F Stmt) → HoldsU (picked W g f fs st l)
+        good_picked st (one.Call p d x es) = good_called p d x es
+        good_picked st l = (s, same_look (Does st ∷ f.items), r)
+
+        pub good_kind : (t : Stmt) (l : Stmt-F Stmt) → HoldsU (steps.act NU (update W) g f fs t l)
+        good_kind t (one.Skip p) = (s, h, r)
+        good_kind t (one.Set p d e) = good_with g.now (steps.value_of NU g f e) p (λ v. Goes [] (steps.stored NU g f fs d v)) (good_value g f s h e) (λ v m. good_stored g f fs d v s h r m)
+        good_kind t (one.SetElem p a i e) =
+            good_with g.now (steps.value_of NU g f i) p (λ at. steps.with NU (steps.value_of NU g f e) p (λ v. steps.with_row NU (steps.row_with (NU.row f.origin g a) (number at) (number v)) p (λ row. Goes [] (Live (NU.put_row f.origin a row g) f fs)))) (good_value g f s h i) (λ at m.
+            good_with g.now (steps.value_of NU g f e) p (λ v. steps.with_row NU (steps.row_with (NU.row f.origin g a) (number at) (number v)) p (λ row. Goes [] (Live (NU.put_row f.origin a row g) f fs))) (good_value g f s h e) (λ v m.
+            good_row (steps.row_with (NU.row f.origin g a) (number at) (number v)) p (λ row. Goes [] (Live (NU.put_row f.origin a row g) f fs)) (λ row. (s, record { there = h.there; locals = h.locals }, r))))
+        good_kind t (one.Call p d x es) = good_called p d x es
+        good_kind t (one.CallBy p d x es) = good_withs g.now (steps.values_of NU g f es) p (λ vs. steps.by_pointer NU ((steps.look NU g f).value x) g f fs vs d p) (good_values g f s h es) (λ vs a.
+            good_pointer ((steps.look NU g f).value x) g f fs vs d p (good_look g f s h x) s h r a)
+        good_kind t (one.If p e a b) = good_with g.now (steps.value_of NU g f e) p (λ v. Goes [] (steps.before_rest NU g f fs (map Does (if is_zero (number v) then b else a)))) (good_value g f s h e) (λ v m. (s, same_look (map Does (if is_zero (number v) then b else a) ++ f.items), r))
+        good_kind t (one.While p e a) = good_with g.now (steps.value_of NU g f e) p (λ v. Goes [] (if is_zero (number v) then Live g f fs else steps.before_rest NU g f fs (map Does a ++ Mark t ∷ []))) (good_value g f s h e) (λ v m.
+            good_choice (is_zero (number v)) (Live g f fs) (steps.before_rest NU g f fs (map Does a ++ Mark t ∷ [])) (s, h, r) (s, same_look ((map Does a ++ Mark t ∷ []) ++ f.items), r))
+        good_kind t (one.Break p) = (s, same_look (after_mark f.items), r)
+        good_kind t (one.Return p None) = good_handed g f.gives f.dest (Num (pos 0)) fs s r tt
+        good_kind t (one.Return p (Some e)) = good_with g.now (steps.value_of NU g f e) p (λ v. steps.handed NU g f.dest (steps.given NU f.gives v) fs) (good_value g f s h e) (λ v m. good_handed g f.gives f.dest v fs s r m)
+        good_kind t (one.Assert p e) = good_with g.now (steps.value_of NU g f e) p (λ v. if is_zero (number v) then steps.trapped NU Assert p else Goes [] (Live g f fs)) (good_value g f s h e) (λ v m.
+            good_test (is_zero (number v)) (steps.trapped NU Assert p) (Goes [] (Live g f fs)) tt (s, h, r))
+        good_kind t (one.Input p d) = λ z. good_stored g f fs d (Num z) s h r tt
+        good_kind t (one.Output p e) = good_with g.now (steps.value_of NU g f e) p (λ v. Goes (event.Output (number v) ∷ []) (Live g f fs)) (good_value g f s h e) (λ v m. (s, h, r))
+        good_kind t (one.Choice p d k) = λ z. good_stored g f fs d (Num (if is_zero z then pos 0 else pos 1)) s h r tt
+        good_kind t (one.Point p k) = good_test (may_update f.origin && (is_old g.now && W.permits k))
+            (Asks (λ z. event.Choice k (not (is_zero z))) (λ z. if is_zero z then Live g f fs else swapped W g f fs)) (Goes [] (Live g f fs))
+            (λ z. good_choice (is_zero z) (Live g f fs) (swapped W g f fs) (s, h, r) (good_swapped g f fs s h r)) (s, h, r)
+        good_kind t (one.Force p) = good_choice (is_old g.now) (swapped W g f fs) (Live g f fs) (good_swapped g f fs s h r) (s, h, r)
+        good_kind t (one.Pick p a b) = let st = (if is_old g.now then b else a) in good_picked st (out-Stmt st)
+
+      good_items : (g : State) (f : UpdFrame) (fs : List UpdFrame) → GoodState g → GoodFrame g.now f → GoodFrames g.now fs → (is : List Item)
+          → HoldsU (steps.next_item (updating_access W) (update W) g f fs is)
+      good_items g f fs s h r [] = good_handed g f.gives f.dest (Num (pos 0)) fs s r tt
+      good_items g f fs s h r (Does t ∷ is) = good_kind g (record f { items = is }) fs s (record { there = h.there; locals = h.locals }) r t (out-Stmt t)
+      good_items g f fs s h r (Mark t ∷ is) = good_kind g (record f { items = is }) fs s (record { there = h.there; locals = h.locals }) r t (out-Stmt t)
+
+      kept : (c : UpdConfig) → Good c → HoldsU (step_updating W c)
+      kept Over i = tt
+      kept (Live g f fs) i = good_items g f fs i.0 i.1 i.2 f.items
+
+      ready : (g : State) (f : UpdFrame) → GoodState g → GoodFrame g.now f → (l : Stmt-F Stmt) → IsReady M g f l
+      ready g f s h (one.CallBy p d x es) = good_look g f s h x
+      ready g f s h (one.Skip p) = tt
+      ready g f s h (one.Set p d e) = tt
+      ready g f s h (one.SetElem p a i e) = tt
+      ready g f s h (one.Call p d x es) = tt
+      ready g f s h (one.If p e a b) = tt
+      ready g f s h (one.While p e a) = tt
+      ready g f s h (one.Break p) = tt
+      ready g f s h (one.Return p e) = tt
+      ready g f s h (one.Assert p e) = tt
+      ready g f s h (one.Input p d) = tt
+      ready g f s h (one.Output p e) = tt
+      ready g f s h (one.Point p k) = tt
+      ready g f s h (one.Choice p d k) = tt
+      ready g f s h (one.Force p) = tt
+      ready g f s h (one.Pick p a b) = tt
+
+      ready_for : (g : State) (f : UpdFrame) → GoodState g → GoodFrame g.now f → (is : List Item) → IsReadyFor M g f is
+      ready_for g f s h [] = tt
+      ready_for g f s h (Does t ∷ is) = ready g f s h (out-Stmt t)
+      ready_for g f s h (Mark t ∷ is) = ready g f s h (out-Stmt t)
+
+      -- from related configurations the merged program shows what the updating machine shows, whatever the programs are
+      pub same_prefixes : HasTransform M → (c : UpdConfig) (d e : PlainConfig) → Comes (step P) d e → R M c e → Good c
+          → (a : List ℤ) (h : List Event) → Shows (step P) d a h ↔ Shows (step_updating W) c a h
+      same_prefixes transform c d e comes r good a h =
+          same_from (step_updating W) (step P) (R M) Good follows kept c d e comes r good a h
+        where
+          follows : (c : UpdConfig) (d : PlainConfig) → R M c d → Good c → Matches (step_updating W) (step P) (R M) (step_updating W c) d
+          follows Over d r i = matched M transform funcs Over d r tt
+          follows (Live g f fs) d r i = matched M transform funcs (Live g f fs) d r (ready_for g f i.0 i.1 f.items)

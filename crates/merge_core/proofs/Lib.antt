@@ -1,0 +1,9 @@
+pub mod Renaming
+pub mod MergedStatements
+pub mod EvaluationRenamed
+pub mod Relation
+pub mod StateLemmas
+pub mod FrameLemmas
+pub mod CallLemmas
+pub mod StatementLemmas
+pub mod Callable

@@ -1,0 +1,156 @@
+-- How the updating run of a world and the plain run of its merged program correspond.
+use Rattle.std.proofs.Common.{◌≡◌, ℕ, zero, suc, ℤ, pos, negsuc, Bool, true, false, not, ◌&&◌, if◌then◌else◌, List, [], ◌∷◌, ◌++◌, map, Option, Some, None, Result, Ok, Err, refl, sym, ap, ap₂, ◌∙◌, subst, rules, ◌⊎◌, inl, inr, length, arith, append-nil, codes}
+use Rattle.std.specs.Option.{option_map}
+use Rattle.std.specs.Str.{bytes_eq}
+use Rattle.std.proofs.lemmas.Slice.Eq.{bytes_eq-Decides}
+use Rattle.std.proofs.lemmas.List.{map-append}
+use Rattle.c_lang.specs.Names.{Bytes}
+use Rattle.c_lang.specs.Trees.{expression_of}
+use Rattle.c_lang.specs.Values.{Value, Num, Code, Null, Answer, number, is_zero}
+use Rattle.c_lang.specs.Evaluation.{Look, ev, joined}
+use Rattle.c_lang.specs.Moves.{Move, Goes, Asks, Rests}
+use Rattle.c_lang.specs.Steps as steps
+use Rattle.c_lang.specs.Steps.{updated, local_or, Locals, Item, Does, Mark, Frame, Config, Live, Over, after_mark}
+use Rattle.c_lang.specs.Programs.{func_in, no_func}
+use Rattle.c_lang.specs.PlainRun.{Store, PlainFrame, PlainConfig, plain_access, dropped, step}
+use Rattle.c_lang.specs.Version.{Version, is_old}
+use Rattle.c_lang.specs.Version as version
+use Rattle.c_lang.specs.Home.{Home, Linked, same_home, same_linked}
+use Rattle.c_lang.specs.Home as home
+use Rattle.c_lang.specs.Origin.{Origin, may_update}
+use Rattle.c_lang.specs.Origin as origin
+use Rattle.c_lang.specs.UpdatingRun.{World, State, UpdFrame, UpdConfig, put_linked, cell_meaning, function_meaning, version_code, code_of, updating_access, swapped_state, swapped, picked, update, step_updating}
+use Rattle.c_lang.proofs.Simulation.{Leads, Comes, Takes, Waits, Ends, Matches, matches_after, goes_once, leads_on, then_leads, silently, comes_on, takes_once, comes_takes, takes_comes, waits_there, comes_waits, ends_there, Holds}
+use Rattle.c_lang.specs.declared.unit.Pos.{Pos}
+use Rattle.c_lang.specs.declared.event.Trap.{Trap}
+use Rattle.c_lang.specs.declared.event.Trap.TheVariants.{Assert, Index, NullCall}
+use Rattle.c_lang.specs.declared.event.Event.{Event}
+use Rattle.c_lang.specs.declared.event.Event.TheVariants as event
+use Rattle.c_lang.specs.declared.expr.Expr.{Expr}
+use Rattle.c_lang.specs.declared.expr.Expr.TheVariants.{Var, Lit}
+use Rattle.c_lang.specs.declared.expr.Op.TheVariants as op
+use Rattle.c_lang.specs.declared.stmt.Kind.{Kind}
+use Rattle.c_lang.specs.declared.stmt.Kind.TheVariants as kind
+use Rattle.c_lang.specs.declared.stmt.Dest.{Dest}
+use Rattle.c_lang.specs.declared.stmt.Dest.TheVariants.{Nowhere, Into, Fresh}
+use Rattle.c_lang.specs.declared.stmt.Stmt.{Stmt, out-Stmt, roll-Stmt, fold-Stmt, fold_out-Stmt, map-Stmt, out-roll-Stmt}
+use Rattle.c_lang.specs.declared.stmt.Stmt.TheOpen.{Stmt-F}
+use Rattle.c_lang.specs.declared.stmt.Stmt.TheOpen as one
+use Rattle.c_lang.specs.declared.stmt.Stmt.TheVariants as stmt
+use Rattle.c_lang.specs.declared.program.Func.{Func}
+use Rattle.c_lang.specs.declared.program.Program.{Program}
+use Rattle.c_lang.proofs.TreeLemmas.{expression_of-expr_of}
+use Rattle.merge_core.proofs.Renaming.{under, renamed, renamed_dest, stmt_under}
+use Rattle.merge_core.proofs.MergedStatements.{now_name, choice_name, result_name, transform_name, is_nil, is_set, swap_body, point_body, hand_on, hand, wrapper_body, merged_layer, merged_stmt, merged_item}
+use Rattle.merge_core.proofs.EvaluationRenamed.{renamed_value, renamed_answer, number-renamed, Carries, ev-renamed, ev-Var, ev-Lit, ev-test}
+
+-- the function of the transformer that an update runs
+abbrev pub transform_function : Bytes
+transform_function = codes "dsu_transform"
+
+-- a cell of the new version alone is there only after the swap
+abbrev pub is_there : Version → Home → Bool
+is_there version.Old home.New = false
+is_there version.Old home.Both = true
+is_there version.Old home.Old = true
+is_there version.Old home.Xform = true
+is_there version.Old home.Client = true
+is_there version.Old home.Unlinked = true
+is_there version.New h = true
+
+-- the flag of the merged program
+abbrev pub flag : Version → Value Bytes
+flag version.Old = Num (pos 0)
+flag version.New = Num (pos 1)
+
+-- What the merged names have to be: ρ for variables and κ for functions by the origin of the frame,
+-- κ' for the functions that are values.
+pub record Naming (W : World) (ρ κ : Origin → Bytes → Bytes) (κ' : Linked → Bytes) : Type 0 where
+  pub cells : (o : Origin) (x : Bytes) (q : Origin) (y : Bytes) → bytes_eq (ρ o x) (ρ q y) ≡ same_linked (cell_meaning W o x) (cell_meaning W q y)
+  pub locals : (o : Origin) (x y : Bytes) → bytes_eq (ρ o x) (ρ o y) ≡ bytes_eq x y
+  pub values : (a b : Linked) → bytes_eq (κ' a) (κ' b) ≡ same_linked a b
+  pub codes : (o : Origin) (now : Version) (f : Bytes) → κ o f ≡ κ' (function_meaning W o now f)
+  pub apart_now : (o : Origin) (x : Bytes) → bytes_eq (ρ o x) now_name ≡ false
+  pub now_apart : (o : Origin) (x : Bytes) → bytes_eq now_name (ρ o x) ≡ false
+  pub choice_apart : (o : Origin) (x : Bytes) → bytes_eq choice_name (ρ o x) ≡ false
+
+-- a world, the names of its merged program, and that program
+pub record Merging : Type 0 where
+  pub world : World
+  pub variable_name : Origin → Bytes → Bytes
+  pub function_name : Origin → Bytes → Bytes
+  pub value_name : Linked → Bytes
+  pub naming : Naming world variable_name function_name value_name
+  pub program : Program
+
+module _ (M : Merging) where
+  abbrev W : World
+  W = M.world
+
+  abbrev ρ : Origin → Bytes → Bytes
+  ρ = M.variable_name
+
+  abbrev κ : Origin → Bytes → Bytes
+  κ = M.function_name
+
+  abbrev κ' : Linked → Bytes
+  κ' = M.value_name
+
+  abbrev names : Naming W ρ κ κ'
+  names = M.naming
+
+  abbrev P : Program
+  P = M.program
+
+  abbrev value' : Value Linked → Value Bytes
+  value' = renamed_value κ'
+
+  -- the state as it would be after a swap now: the merged program has the new cells from the start
+  abbrev pub settled_by : Version → State → State
+  settled_by version.Old g = swapped_state W g
+  settled_by version.New g = g
+
+  abbrev pub settled : State → State
+  settled g = settled_by g.now g
+
+  pub record SameState (g : State) (s : Store) : Type 0 where
+    pub values : (o : Origin) (x : Bytes) → s.values (ρ o x) ≡ value' ((settled g).values (cell_meaning W o x).0 (cell_meaning W o x).1)
+    pub rows : (o : Origin) (x : Bytes) → s.rows (ρ o x) ≡ (settled g).rows (cell_meaning W o x).0 (cell_meaning W o x).1
+    pub now : s.values now_name ≡ flag g.now
+
+  pub record SameFrame (now : Version) (f : UpdFrame) (q : PlainFrame) : Type 0 where
+    pub there : (x : Bytes) → is_there now (cell_meaning W f.origin x).0 ≡ true
+    pub locals : (x : Bytes) → q.locals (ρ f.origin x) ≡ option_map value' (f.locals x)
+    pub no_flag : q.locals now_name ≡ None
+    pub items : q.items ≡ map (merged_item W.permits ρ κ f.origin) f.items
+    pub gives : q.gives ≡ f.gives
+
+  -- a frame that hands on the result of the one above, which has this destination and may have no result
+  abbrev pub Hands : Bool → Dest → PlainFrame → Type 0
+  Hands true e w = (e ≡ Fresh kind.Int result_name) × (w.gives ≡ true) × ((p : Pos) × (w.items ≡ Does (hand_on p) ∷ []))
+  Hands false e w = (e ≡ Nowhere) × (w.gives ≡ false) × (w.items ≡ [])
+
+  -- the merged `main`
+  abbrev pub Bottom : Bool → Dest → List PlainFrame → Type 0
+  Bottom b e [] = ⊥
+  Bottom b e (w ∷ []) = Hands b e w
+  Bottom b e (w ∷ v ∷ more) = ⊥
+
+  abbrev pub top_of : List PlainFrame → (PlainFrame → List PlainFrame → Type 0) → Type 0
+  top_of [] go = ⊥
+  top_of (q ∷ qs) go = go q qs
+
+  -- the frames below one, and where its result goes: straight to the next frame, or by a wrapper's frame
+  abbrev pub Below : Version → Bool → Dest → List UpdFrame → Dest → List PlainFrame → Type 0
+  Below now b d [] e qs = Bottom b e qs
+  Below now b d (f ∷ fs) e qs =
+      top_of qs (λ q qs. (e ≡ renamed_dest (ρ f.origin) d) × SameFrame now f q × Below now f.gives f.dest fs q.dest qs)
+      ⊎ top_of qs (λ w qs. Hands b e w × top_of qs (λ q qs. (w.dest ≡ renamed_dest (ρ f.origin) d) × SameFrame now f q × Below now f.gives f.dest fs q.dest qs))
+
+  abbrev pub R : UpdConfig → PlainConfig → Type 0
+  R Over c = c ≡ Over
+  R (Live g f fs) Over = ⊥
+  R (Live g f fs) (Live s q qs) = SameState g s × SameFrame g.now f q × Below g.now f.gives f.dest fs q.dest qs
+
+  abbrev pub Follows : Move UpdConfig → PlainConfig → Type 0
+  Follows = Matches (step_updating W) (step P) R

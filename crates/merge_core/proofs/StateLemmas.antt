@@ -1,0 +1,233 @@
+-- Reading and writing names keeps the states and the frames related.
+use Rattle.std.proofs.Common.{◌≡◌, ℕ, zero, suc, ℤ, pos, negsuc, Bool, true, false, not, ◌&&◌, if◌then◌else◌, List, [], ◌∷◌, ◌++◌, map, Option, Some, None, Result, Ok, Err, refl, sym, ap, ap₂, ◌∙◌, subst, rules, ◌⊎◌, inl, inr, length, arith, append-nil, codes}
+use Rattle.std.specs.Option.{option_map}
+use Rattle.std.specs.Str.{bytes_eq}
+use Rattle.std.proofs.lemmas.Slice.Eq.{bytes_eq-Decides}
+use Rattle.std.proofs.lemmas.List.{map-append}
+use Rattle.c_lang.specs.Names.{Bytes}
+use Rattle.c_lang.specs.Trees.{expression_of}
+use Rattle.c_lang.specs.Values.{Value, Num, Code, Null, Answer, number, is_zero}
+use Rattle.c_lang.specs.Evaluation.{Look, ev, joined}
+use Rattle.c_lang.specs.Moves.{Move, Goes, Asks, Rests}
+use Rattle.c_lang.specs.Steps as steps
+use Rattle.c_lang.specs.Steps.{updated, local_or, Locals, Item, Does, Mark, Frame, Config, Live, Over, after_mark}
+use Rattle.c_lang.specs.Programs.{func_in, no_func}
+use Rattle.c_lang.specs.PlainRun.{Store, PlainFrame, PlainConfig, plain_access, dropped, step}
+use Rattle.c_lang.specs.Version.{Version, is_old}
+use Rattle.c_lang.specs.Version as version
+use Rattle.c_lang.specs.Home.{Home, Linked, same_home, same_linked}
+use Rattle.c_lang.specs.Home as home
+use Rattle.c_lang.specs.Origin.{Origin, may_update}
+use Rattle.c_lang.specs.Origin as origin
+use Rattle.c_lang.specs.UpdatingRun.{World, State, UpdFrame, UpdConfig, put_linked, cell_meaning, function_meaning, version_code, code_of, updating_access, swapped_state, swapped, picked, update, step_updating}
+use Rattle.c_lang.proofs.Simulation.{Leads, Comes, Takes, Waits, Ends, Matches, matches_after, goes_once, leads_on, then_leads, silently, comes_on, takes_once, comes_takes, takes_comes, waits_there, comes_waits, ends_there, Holds}
+use Rattle.c_lang.specs.declared.unit.Pos.{Pos}
+use Rattle.c_lang.specs.declared.event.Trap.{Trap}
+use Rattle.c_lang.specs.declared.event.Trap.TheVariants.{Assert, Index, NullCall}
+use Rattle.c_lang.specs.declared.event.Event.{Event}
+use Rattle.c_lang.specs.declared.event.Event.TheVariants as event
+use Rattle.c_lang.specs.declared.expr.Expr.{Expr}
+use Rattle.c_lang.specs.declared.expr.Expr.TheVariants.{Var, Lit}
+use Rattle.c_lang.specs.declared.expr.Op.TheVariants as op
+use Rattle.c_lang.specs.declared.stmt.Kind.{Kind}
+use Rattle.c_lang.specs.declared.stmt.Kind.TheVariants as kind
+use Rattle.c_lang.specs.declared.stmt.Dest.{Dest}
+use Rattle.c_lang.specs.declared.stmt.Dest.TheVariants.{Nowhere, Into, Fresh}
+use Rattle.c_lang.specs.declared.stmt.Stmt.{Stmt, out-Stmt, roll-Stmt, fold-Stmt, fold_out-Stmt, map-Stmt, out-roll-Stmt}
+use Rattle.c_lang.specs.declared.stmt.Stmt.TheOpen.{Stmt-F}
+use Rattle.c_lang.specs.declared.stmt.Stmt.TheOpen as one
+use Rattle.c_lang.specs.declared.stmt.Stmt.TheVariants as stmt
+use Rattle.c_lang.specs.declared.program.Func.{Func}
+use Rattle.c_lang.specs.declared.program.Program.{Program}
+use Rattle.c_lang.proofs.TreeLemmas.{expression_of-expr_of}
+use Rattle.merge_core.proofs.Renaming.{under, renamed, renamed_dest, stmt_under}
+use Rattle.merge_core.proofs.MergedStatements.{now_name, choice_name, result_name, transform_name, is_nil, is_set, swap_body, point_body, hand_on, hand, wrapper_body, merged_layer, merged_stmt, merged_item}
+use Rattle.merge_core.proofs.EvaluationRenamed.{renamed_value, renamed_answer, number-renamed, Carries, ev-renamed, ev-Var, ev-Lit, ev-test}
+use Rattle.merge_core.proofs.Relation.{Naming, Merging, is_there, flag, transform_function, settled_by, settled, SameState, SameFrame, Below, R, Follows}
+
+module _ (M : Merging) where
+  abbrev W : World
+  W = M.world
+
+  abbrev ρ : Origin → Bytes → Bytes
+  ρ = M.variable_name
+
+  abbrev κ : Origin → Bytes → Bytes
+  κ = M.function_name
+
+  abbrev κ' : Linked → Bytes
+  κ' = M.value_name
+
+  abbrev names : Naming W ρ κ κ'
+  names = M.naming
+
+  abbrev P : Program
+  P = M.program
+
+  abbrev value' : Value Linked → Value Bytes
+  value' = renamed_value κ'
+
+  -- ---- reading
+
+  pub settled_there : (now : Version) (g : State) (h : Home) (x : Bytes) → is_there now h ≡ true
+      → ((settled_by M now g).values h x ≡ g.values h x) × ((settled_by M now g).rows h x ≡ g.rows h x)
+  settled_there version.New g h x t = (refl, refl)
+  settled_there version.Old g home.New x t = cc
+  settled_there version.Old g home.Both x t = (refl, refl)
+  settled_there version.Old g home.Old x t = (refl, refl)
+  settled_there version.Old g home.Xform x t = (refl, refl)
+  settled_there version.Old g home.Client x t = (refl, refl)
+  settled_there version.Old g home.Unlinked x t = (refl, refl)
+
+  local_or-renamed : (o : Option (Value Linked)) (v : Value Linked) → local_or (option_map value' o) (value' v) ≡ value' (local_or o v)
+  local_or-renamed None v = refl
+  local_or-renamed (Some w) v = refl
+
+  module _ (g : State) (s : Store) (f : UpdFrame) (q : PlainFrame) (ss : SameState M g s) (sf : SameFrame M g.now f q) where
+    abbrev lookU : Look Linked
+    lookU = steps.look (updating_access W) g f
+
+    abbrev lookP : Look Bytes
+    lookP = steps.look (plain_access P) s q
+
+    pub carries : Carries κ' (ρ f.origin) (κ f.origin) lookU lookP
+    carries = record {
+      value = λ x. let c = cell_meaning W f.origin x in
+          ap₂ local_or (sf.locals x) (ss.values f.origin x ∙ ap value' (settled_there g.now g c.0 c.1 (sf.there x)).0)
+          ∙ local_or-renamed (f.locals x) (g.values c.0 c.1);
+      row = λ x. let c = cell_meaning W f.origin x in ss.rows f.origin x ∙ (settled_there g.now g c.0 c.1 (sf.there x)).1;
+      code = λ x. names.codes f.origin g.now x;
+    }
+
+    pub value_of-renamed : (e : Expr) → steps.value_of (plain_access P) s q (under (ρ f.origin) (κ f.origin) e) ≡ renamed_answer κ' (steps.value_of (updating_access W) g f e)
+    value_of-renamed e =
+        ap (ev bytes_eq lookP) (expression_of-expr_of (renamed (ρ f.origin) (κ f.origin) (expression_of e)))
+        ∙ ev-renamed κ' same_linked bytes_eq names.values (ρ f.origin) (κ f.origin) lookU lookP carries (expression_of e)
+
+  -- ---- steps
+
+  pub by_answer : (a : Answer Linked) (b : Answer Bytes) → b ≡ renamed_answer κ' a → (p : Pos) (go : Value Linked → Move UpdConfig) (go' : Value Bytes → Move PlainConfig) (d : PlainConfig)
+      → step P d ≡ steps.with (plain_access P) b p go' → ((v : Value Linked) → step P d ≡ go' (value' v) → Follows M (go v) d) → Follows M (steps.with (updating_access W) a p go) d
+  by_answer (Ok v) b e p go go' d is h = h v (is ∙ ap (λ x. steps.with (plain_access P) x p go') e)
+  by_answer (Err t) b e p go go' d is h =
+      (Over, goes_once (step P) d Over (event.Fault t p ∷ []) (is ∙ ap (λ x. steps.with (plain_access P) x p go') e), refl)
+
+  -- ---- writing
+
+  never_new : (h : Home) → is_there version.Old h ≡ true → same_home h home.New ≡ false
+  never_new home.New t = cc
+  never_new home.Both t = refl
+  never_new home.Old t = refl
+  never_new home.Xform t = refl
+  never_new home.Client t = refl
+  never_new home.Unlinked t = refl
+
+  settled_put : (now : Version) (g : State) (k : Linked) (v : Value Linked) (h : Home) (x : Bytes) → is_there now k.0 ≡ true
+      → (settled_by M now (record g { values = put_linked g.values k v })).values h x ≡ put_linked (settled_by M now g).values k v h x
+  settled_put version.New g k v h x t = refl
+  settled_put version.Old g k v home.New x t =
+      ap (λ b. if b && bytes_eq k.1 x then v else (swapped_state W g).values home.New x) (sym (never_new k.0 t))
+  settled_put version.Old g k v home.Both x t = refl
+  settled_put version.Old g k v home.Old x t = refl
+  settled_put version.Old g k v home.Xform x t = refl
+  settled_put version.Old g k v home.Client x t = refl
+  settled_put version.Old g k v home.Unlinked x t = refl
+
+  settled_rows : (now : Version) (g : State) (vs : Home → Bytes → Value Linked) (h : Home) (x : Bytes)
+      → (settled_by M now (record g { values = vs })).rows h x ≡ (settled_by M now g).rows h x
+  settled_rows version.New g vs h x = refl
+  settled_rows version.Old g vs h x = refl
+
+  pick : (b : Bool) (v w : Value Linked) → (if b then value' v else value' w) ≡ value' (if b then v else w)
+  pick true v w = refl
+  pick false v w = refl
+
+  same_put : (g : State) (s : Store) (o : Origin) (x : Bytes) (v : Value Linked) → is_there g.now (cell_meaning W o x).0 ≡ true → SameState M g s
+      → SameState M ((updating_access W).put o x v g) (record s { values = updated s.values (ρ o x) (value' v) })
+  same_put g s o x v t ss = record {
+    values = λ q y. let c = cell_meaning W q y in
+        ap₂ (λ b z. if b then value' v else z) (names.cells o x q y) (ss.values q y)
+        ∙ pick (same_linked (cell_meaning W o x) c) v ((settled M g).values c.0 c.1)
+        ∙ ap value' (sym (settled_put g.now g (cell_meaning W o x) v c.0 c.1 t));
+    rows = λ q y. let c = cell_meaning W q y in
+        ss.rows q y ∙ sym (settled_rows g.now g (put_linked g.values (cell_meaning W o x) v) c.0 c.1);
+    now = ap (λ b. if b then value' v else s.values now_name) (names.apart_now o x) ∙ ss.now;
+  }
+
+  module _ (g : State) (s : Store) (f : UpdFrame) (q : PlainFrame) (fs : List UpdFrame) (qs : List PlainFrame)
+      (ss : SameState M g s) (sf : SameFrame M g.now f q) (sb : Below M g.now f.gives f.dest fs q.dest qs) where
+    abbrev o : Origin
+    o = f.origin
+
+    pick_local : (b : Bool) (v : Value Linked) (w : Option (Value Linked)) → (if b then Some (value' v) else option_map value' w) ≡ option_map value' (if b then Some v else w)
+    pick_local true v w = refl
+    pick_local false v w = refl
+
+    same_local : (x : Bytes) (v : Value Linked) → SameFrame M g.now (record f { locals = updated f.locals x (Some v) }) (record q { locals = updated q.locals (ρ o x) (Some (value' v)) })
+    same_local x v = record {
+      there = sf.there;
+      locals = λ y. ap₂ (λ b z. if b then Some (value' v) else z) (names.locals o x y) (sf.locals y) ∙ pick_local (bytes_eq x y) v (f.locals y);
+      no_flag = ap (λ b. if b then Some (value' v) else q.locals now_name) (names.apart_now o x) ∙ sf.no_flag;
+      items = sf.items;
+      gives = sf.gives;
+    }
+
+    same_into : (x : Bytes) (v : Value Linked) (a : Option (Value Linked)) (b : Option (Value Bytes)) → b ≡ option_map value' a
+        → R M (steps.into (updating_access W) a g f fs x v) (steps.into (plain_access P) b s q qs (ρ o x) (value' v))
+    same_into x v None None e = (same_put g s o x v (sf.there x) ss, sf, sb)
+    same_into x v None (Some b) e = absurd cc
+    same_into x v (Some a) None e = absurd cc
+    same_into x v (Some a) (Some b) e = (ss, same_local x v, sb)
+
+    pub same_stored : (d : Dest) (v : Value Linked) → R M (steps.stored (updating_access W) g f fs d v) (steps.stored (plain_access P) s q qs (renamed_dest (ρ o) d) (value' v))
+    same_stored Nowhere v = (ss, sf, sb)
+    same_stored (Into x) v = same_into x v (f.locals x) (q.locals (ρ o x)) (sf.locals x)
+    same_stored (Fresh k x) v = (ss, same_local x v, sb)
+
+  -- ---- rows and lists of values
+
+  settled_put_row : (now : Version) (g : State) (k : Linked) (row : List ℤ) (h : Home) (x : Bytes) → is_there now k.0 ≡ true
+      → (settled_by M now (record g { rows = put_linked g.rows k row })).rows h x ≡ put_linked (settled_by M now g).rows k row h x
+  settled_put_row version.New g k row h x t = refl
+  settled_put_row version.Old g k row home.New x t =
+      ap (λ b. if b && bytes_eq k.1 x then row else (swapped_state W g).rows home.New x) (sym (never_new k.0 t))
+  settled_put_row version.Old g k row home.Both x t = refl
+  settled_put_row version.Old g k row home.Old x t = refl
+  settled_put_row version.Old g k row home.Xform x t = refl
+  settled_put_row version.Old g k row home.Client x t = refl
+  settled_put_row version.Old g k row home.Unlinked x t = refl
+
+  settled_values : (now : Version) (g : State) (rs : Home → Bytes → List ℤ) (h : Home) (x : Bytes)
+      → (settled_by M now (record g { rows = rs })).values h x ≡ (settled_by M now g).values h x
+  settled_values version.New g rs h x = refl
+  settled_values version.Old g rs h x = refl
+
+  pub same_put_row : (g : State) (s : Store) (o : Origin) (x : Bytes) (row : List ℤ) → is_there g.now (cell_meaning W o x).0 ≡ true → SameState M g s
+      → SameState M ((updating_access W).put_row o x row g) (record s { rows = updated s.rows (ρ o x) row })
+  same_put_row g s o x row t ss = record {
+    values = λ q y. let c = cell_meaning W q y in
+        ss.values q y ∙ ap value' (sym (settled_values g.now g (put_linked g.rows (cell_meaning W o x) row) c.0 c.1));
+    rows = λ q y. let c = cell_meaning W q y in
+        ap₂ (λ b z. if b then row else z) (names.cells o x q y) (ss.rows q y) ∙ sym (settled_put_row g.now g (cell_meaning W o x) row c.0 c.1 t);
+    now = ss.now;
+  }
+
+  pub by_row : (a : Option (List ℤ)) (p : Pos) (go : List ℤ → Move UpdConfig) (go' : List ℤ → Move PlainConfig) (c : PlainConfig)
+      → step P c ≡ steps.with_row (plain_access P) a p go' → ((row : List ℤ) → step P c ≡ go' row → Follows M (go row) c) → Follows M (steps.with_row (updating_access W) a p go) c
+  by_row (Some row) p go go' c is h = h row is
+  by_row None p go go' c is h = (Over, goes_once (step P) c Over (event.Fault Index p ∷ []) is, refl)
+
+  abbrev pub renamed_answers : Result (List (Value Linked)) Trap → Result (List (Value Bytes)) Trap
+  renamed_answers (Ok vs) = Ok (map value' vs)
+  renamed_answers (Err t) = Err t
+
+  pub and-renamed : (a : Answer Linked) (r : Result (List (Value Linked)) Trap) → steps.and_values (plain_access P) (renamed_answer κ' a) (renamed_answers r) ≡ renamed_answers (steps.and_values (updating_access W) a r)
+  and-renamed (Err t) r = refl
+  and-renamed (Ok v) (Err t) = refl
+  and-renamed (Ok v) (Ok vs) = refl
+
+  pub by_values : (a : Result (List (Value Linked)) Trap) (b : Result (List (Value Bytes)) Trap) → b ≡ renamed_answers a → (p : Pos) (go : List (Value Linked) → Move UpdConfig) (go' : List (Value Bytes) → Move PlainConfig) (c : PlainConfig)
+      → step P c ≡ steps.with (plain_access P) b p go' → ((vs : List (Value Linked)) → step P c ≡ go' (map value' vs) → Follows M (go vs) c) → Follows M (steps.with (updating_access W) a p go) c
+  by_values (Ok vs) b e p go go' c is h = h vs (is ∙ ap (λ x. steps.with (plain_access P) x p go') e)
+  by_values (Err t) b e p go go' c is h =
+      (Over, goes_once (step P) c Over (event.Fault t p ∷ []) (is ∙ ap (λ x. steps.with (plain_access P) x p go') e), refl)

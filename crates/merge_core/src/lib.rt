@@ -1,0 +1,2 @@
+//! The merge of two versions, a transformer and a client into one program.
+#![tactic(auto)]
