@@ -7,3 +7,7 @@ pub mod FrameLemmas
 pub mod CallLemmas
 pub mod StatementLemmas
 pub mod Callable
+pub mod MergedNames
+pub mod FirstBodies
+pub mod FirstWorld
+pub mod FirstTheorem

@@ -1,0 +1,259 @@
+-- The merged program of two sources of the first form shows what their updating run shows.
+use Rattle.std.proofs.Common.{◌≡◌, ℕ, ◌+◌, ℤ, pos, Bool, true, false, ◌&&◌, if◌then◌else◌, List, [], ◌∷◌, ◌++◌, map, Option, Some, None, unwrap_or, refl, sym, ap, ap₂, ◌∙◌, subst, codes, ◌⊎◌, inl, inr, ◌↔◌}
+use Rattle.std.specs.Option.{option_map}
+use Rattle.std.specs.Str.{bytes_eq}
+use Rattle.c_lang.specs.Names.{Bytes}
+use Rattle.c_lang.specs.Values.{Value, Num, Code, Null}
+use Rattle.c_lang.specs.Moves.{Move, Goes, Shows}
+use Rattle.c_lang.specs.Steps as steps
+use Rattle.c_lang.specs.Steps.{Does, Live, Over, Frame, Config}
+use Rattle.c_lang.specs.Sources.{Source, Setter, Action, at, global, first_line}
+use Rattle.c_lang.specs.Layout.{both_name, layout_program, returned_call}
+use Rattle.c_lang.specs.Programs.{func_named, func_in, no_func, global_named, initial_value, initial_row}
+use Rattle.c_lang.specs.PlainRun.{Store, PlainFrame, PlainConfig, plain_access, dropped, step, start, Obs}
+use Rattle.c_lang.specs.Version.{Version}
+use Rattle.c_lang.specs.Version as version
+use Rattle.c_lang.specs.Home.{Home, Linked}
+use Rattle.c_lang.specs.Home as home
+use Rattle.c_lang.specs.Origin.{Origin}
+use Rattle.c_lang.specs.Origin as origin
+use Rattle.c_lang.specs.UpdatingRun.{World, State, swapped_state, UpdFrame, UpdConfig, cell_meaning, function_meaning, version_code, code_of, updating_access, first_state, step_updating, start_updating, ObsU, if_in_old, if_new}
+use Rattle.c_lang.proofs.Simulation.{Comes, silently, goes_once}
+use Rattle.c_lang.specs.declared.event.Event.{Event}
+use Rattle.c_lang.specs.declared.unit.Pos.{Pos}
+use Rattle.c_lang.specs.declared.unit.Unit.TheVariants as unit
+use Rattle.c_lang.specs.declared.stmt.Kind.TheVariants as kind
+use Rattle.c_lang.specs.declared.stmt.Dest.TheVariants.{Nowhere, Fresh}
+use Rattle.c_lang.specs.declared.stmt.Stmt.TheVariants as stmt
+use Rattle.c_lang.specs.declared.program.GlobalVar.{GlobalVar}
+use Rattle.c_lang.specs.declared.program.Func.{Func}
+use Rattle.c_lang.specs.declared.program.Program.{Program}
+use Rattle.merge_core.specs.FirstMerge.{merged_layout, world_of, ShowsTheSame, main_at}
+use Rattle.merge_core.proofs.MergedStatements.{result_name, hand_on, merged_stmt}
+use Rattle.merge_core.proofs.EvaluationRenamed.{renamed_value}
+use Rattle.merge_core.proofs.MergedNames.{cell_name, code_name, kept, by_bool, bytes_eq-refl, free-kept, own-kept, variable_name, function_name, merged_naming}
+use Rattle.merge_core.proofs.Relation.{Merging, SameState, SameFrame, R, is_there, transform_function}
+use Rattle.merge_core.proofs.FrameLemmas.{IsMerged, HasTransform, does_map}
+use Rattle.merge_core.proofs.CallLemmas.{HasFuncs, IsCallable, IsDirect, IsWrapper, MayCall}
+use Rattle.merge_core.proofs.Callable.{Good, same_prefixes}
+use Rattle.merge_core.proofs.FirstBodies.{merged-old_body, merged-new_body, merged-setter_body}
+use Rattle.merge_core.proofs.FirstWorld.{FirstParts, IsKeyOr, FunctionIs}
+use Rattle.merge_core.proofs.FirstWorld as parts
+
+-- no function of the list has the name
+abbrev NoneNamed : List Func → Bytes → Type 0
+NoneNamed [] f = Unit {0}
+NoneNamed (d ∷ ds) f = (bytes_eq d.name f ≡ false) × NoneNamed ds f
+
+func_named-none : (ds : List Func) (f : Bytes) → NoneNamed ds f → func_named ds f ≡ None
+func_named-none [] f h = refl
+func_named-none (d ∷ ds) f h = ap (λ b. if b then Some d else func_named ds f) h.0 ∙ func_named-none ds f h.1
+
+module _ (F : FirstParts) where
+  abbrev N : Bytes
+  N = F.name
+
+  abbrev W : World
+  W = parts.W F
+
+  abbrev pub P : Program
+  P = layout_program (merged_layout (parts.old F) (parts.new F) (parts.setter F))
+
+  abbrev M : Merging
+  M = record {
+    world = W;
+    variable_name = variable_name W (parts.alike F);
+    function_name = function_name W (parts.alike F);
+    value_name = code_name;
+    naming = merged_naming W (parts.alike F);
+    program = P;
+  }
+
+  -- ---- the functions
+
+  shared_name : (o : Origin) → parts.OfProgram F o → M.variable_name o N ≡ both_name N
+  shared_name o p = ap cell_name (parts.cell_meaning-name F o p)
+
+  merged_old : IsMerged M origin.Old (func_in W.first.funcs (codes "main")) (func_in P.funcs (codes "dsu_old_main"))
+  merged_old = record {
+    params = refl;
+    body = merged-old_body W.permits M.variable_name M.function_name N (λ k. refl) (shared_name origin.Old tt) (first_line F.old_includes + 2) F.old_actions;
+    gives = refl;
+  }
+
+  merged_new : IsMerged M origin.New (func_in W.second.funcs (codes "main")) (func_in P.funcs (codes "dsu_new_main"))
+  merged_new = record {
+    params = refl;
+    body = merged-new_body W.permits M.variable_name M.function_name N (shared_name origin.New tt) (first_line F.new_includes + 2) F.new_actions;
+    gives = refl;
+  }
+
+  merged_transform : IsMerged M origin.Xform (func_in W.xform.funcs (codes "dsu_transform")) (func_in P.funcs (codes "dsu_xform_dsu_transform"))
+  merged_transform = record {
+    params = refl;
+    body = merged-setter_body W.permits M.variable_name M.function_name N (shared_name origin.Xform tt) 2 F.set_values;
+    gives = refl;
+  }
+
+  transform : HasTransform M
+  transform = record { merged = merged_transform }
+
+  wrapper : IsWrapper M (codes "main")
+  wrapper = record {
+    at = main_at unit.Old (parts.old F);
+    body = refl;
+    distinct = tt;
+    no_flag = tt;
+    old = merged_old;
+    new = merged_new;
+    old_params = refl;
+    new_params = refl;
+    old_gives = refl;
+    new_gives = refl;
+  }
+
+  -- the merged program has no function under the name of one that is linked nowhere
+  func_in-kept : (f : Bytes) → bytes_eq (codes "main") f ≡ false → func_in P.funcs (kept f) ≡ no_func
+  func_in-kept f apart = ap (λ (d : Option Func). unwrap_or d no_func) (func_named-none P.funcs (kept f) (
+    own-kept 111 (codes "ld_main") f refl refl,
+    (own-kept 110 (codes "ew_main") f refl refl,
+    (own-kept 97 (codes "ny_main") f refl refl,
+    (own-kept 120 (codes "form_dsu_transform") f refl refl,
+    (free-kept (codes "main") f refl apart, tt))))))
+
+  no_function : (now : Version) (f : Bytes) → bytes_eq (codes "main") f ≡ false → IsDirect M now (home.Unlinked, f)
+  no_function now f apart = subst (IsMerged M origin.Old no_func) (sym (func_in-kept f apart)) (record { params = refl; body = refl; gives = refl })
+
+  callable : (now : Version) (linked : Linked) (f : Bytes) → FunctionIs F linked f → IsCallable M now linked
+  callable now linked f (inl e) = subst (IsCallable M now) (sym e) wrapper
+  callable now linked f (inr (inl e)) = subst (IsCallable M now) (sym e) merged_transform
+  callable now linked f (inr (inr e)) = subst (IsCallable M now) (sym e.0) (no_function now f e.1)
+
+  functions : HasFuncs M
+  functions = record {
+    callable = λ o now f there. callable now (function_meaning W o now f) f (parts.function-is F o now f);
+    there = λ o now f there y. parts.always_there F now (code_of W now (function_meaning W o now f)).0 y;
+  }
+
+  -- ---- the start
+
+  abbrev cell : GlobalVar
+  cell = global N F.old_value (at unit.Old (first_line F.old_includes))
+
+  abbrev store : Store
+  store = record {
+    values = λ x. initial_value (λ f. f) (global_named P.globals x);
+    rows = λ x. initial_row (global_named P.globals x);
+  }
+
+  -- the shared number has its place in both
+  global_named-both : global_named P.globals (both_name N) ≡ Some (global (both_name N) F.old_value (at unit.Old (first_line F.old_includes)))
+  global_named-both = ap (λ b. if◌then◌else◌ {A = Option GlobalVar} b (Some (global (both_name N) F.old_value (at unit.Old (first_line F.old_includes)))) None) (bytes_eq-refl N)
+
+  global_named-old : global_named W.first.globals N ≡ Some cell
+  global_named-old = ap (λ b. if◌then◌else◌ {A = Option GlobalVar} b (Some cell) None) (bytes_eq-refl N)
+
+  -- and a name that is linked nowhere has none
+  global_named-kept : (x : Bytes) → global_named P.globals (kept x) ≡ None
+  global_named-kept x =
+      ap (λ b. if◌then◌else◌ {A = Option GlobalVar} b (Some (global (codes "dsu_now") 0 (at unit.Merge 1))) (global_named (global (both_name N) F.old_value (at unit.Old (first_line F.old_includes)) ∷ []) (kept x))) (own-kept 110 (codes "ow") x refl refl)
+      ∙ ap (λ b. if◌then◌else◌ {A = Option GlobalVar} b (Some (global (both_name N) F.old_value (at unit.Old (first_line F.old_includes)))) None) (own-kept 98 (codes "oth_" ++ N) x refl refl)
+
+  -- the state as it would be after a swap at once
+  abbrev settled_start : State
+  settled_start = swapped_state W (first_state W)
+
+  abbrev at_start : Linked → Type 0
+  at_start c =
+      (store.values (cell_name c) ≡ renamed_value code_name (settled_start.values c.0 c.1))
+      × (store.rows (cell_name c) ≡ settled_start.rows c.0 c.1)
+
+  shared_at_start : at_start (home.Both, N)
+  shared_at_start = (
+    ap (initial_value (λ f. f)) global_named-both ∙ ap (λ g. renamed_value code_name (initial_value (function_meaning W origin.Old version.Old) g)) (sym global_named-old),
+    ap initial_row global_named-both ∙ ap initial_row (sym global_named-old),
+  )
+
+  unlinked_at_start : (x : Bytes) → at_start (home.Unlinked, x)
+  unlinked_at_start x = (ap (initial_value (λ f. f)) (global_named-kept x), ap initial_row (global_named-kept x))
+
+  each_at_start : (o : Origin) (x : Bytes) → at_start (cell_meaning W o x)
+  each_at_start o x = by_meaning (parts.cell-is F o x)
+    where
+      by_meaning : IsKeyOr N (cell_meaning W o x) x ⊎ (cell_meaning W o x ≡ (home.Unlinked, x)) → at_start (cell_meaning W o x)
+      by_meaning (inl (inl e)) = subst at_start (sym e) shared_at_start
+      by_meaning (inl (inr e)) = subst at_start (sym e.0) (unlinked_at_start x)
+      by_meaning (inr e) = subst at_start (sym e) (unlinked_at_start x)
+
+  start_state : SameState M (first_state W) store
+  start_state = record {
+    values = λ o x. (each_at_start o x).0;
+    rows = λ o x. (each_at_start o x).1;
+    now = refl;
+  }
+
+  abbrev old_main : Func
+  old_main = func_in W.first.funcs (codes "main")
+
+  abbrev merged_old_main : Func
+  merged_old_main = func_in P.funcs (codes "dsu_old_main")
+
+  abbrev first_frame : UpdFrame
+  first_frame = steps.frame_of (updating_access W) (origin.Old, old_main) [] Nowhere
+
+  abbrev called_frame : PlainFrame
+  called_frame = steps.frame_of (plain_access P) (tt, merged_old_main) [] (Fresh kind.Int result_name)
+
+  start_frame : SameFrame M version.Old first_frame called_frame
+  start_frame = record {
+    there = λ x. parts.always_there F version.Old origin.Old x;
+    locals = λ x. refl;
+    no_flag = refl;
+    items = ap (map Does) merged_old.body ∙ does_map M origin.Old old_main.body;
+    gives = refl;
+  }
+
+  abbrev p0 : Pos
+  p0 = main_at unit.Old (parts.old F)
+
+  -- the frame of `main`, which waits for the result of the old `main`
+  abbrev waiting : PlainFrame
+  waiting = record { origin = tt; locals = λ x. None; items = Does (hand_on p0) ∷ []; dest = Nowhere; gives = true }
+
+  abbrev begun : PlainConfig
+  begun = Live store called_frame (waiting ∷ [])
+
+  first_step : step P (start P) ≡ Goes [] begun
+  first_step = ap (λ l. steps.act (plain_access P) (dropped P) store waiting [] (stmt.Call p0 (Fresh kind.Int result_name) (codes "dsu_old_main") []) l)
+      (stmt.outs-Call p0 (Fresh kind.Int result_name) (codes "dsu_old_main") [])
+
+  new_may : (x : Bytes) → MayCall M version.New (initial_value (function_meaning W origin.New version.New) (global_named W.second.globals x))
+  new_may x = by_cases (bytes_eq N x)
+    where
+      by_cases : (b : Bool) → MayCall M version.New (initial_value (function_meaning W origin.New version.New) (if◌then◌else◌ {A = Option GlobalVar} b (Some (global N F.new_value (at unit.New (first_line F.new_includes)))) None))
+      by_cases true = tt
+      by_cases false = tt
+
+  old_may : (x : Bytes) → MayCall M version.Old (initial_value (function_meaning W origin.Old version.Old) (global_named W.first.globals x))
+  old_may x = by_cases (bytes_eq N x)
+    where
+      by_cases : (b : Bool) → MayCall M version.Old (initial_value (function_meaning W origin.Old version.Old) (if◌then◌else◌ {A = Option GlobalVar} b (Some cell) None))
+      by_cases true = tt
+      by_cases false = tt
+
+  start_may : (h : Home) (x : Bytes) → MayCall M version.Old ((first_state W).values h x)
+  start_may home.Both x = old_may x
+  start_may home.Old x = old_may x
+  start_may home.New x = tt
+  start_may home.Xform x = tt
+  start_may home.Client x = tt
+  start_may home.Unlinked x = tt
+
+  start_good : Good M functions (start_updating W)
+  start_good = (start_may, record { there = λ x. parts.always_there F version.Old origin.Old x; locals = λ x. tt }, tt)
+
+  pub shows_the_same : ShowsTheSame (parts.first F) (parts.second F) (parts.xform F) P
+  shows_the_same answers h =
+      same_prefixes M functions new_may transform (start_updating W) (start P) begun
+      (silently (step P) (start P) begun (goes_once (step P) (start P) begun [] first_step))
+      (start_state, start_frame, (refl, refl, (p0, refl))) start_good answers h
