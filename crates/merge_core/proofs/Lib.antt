@@ -11,3 +11,4 @@ pub mod MergedNames
 pub mod FirstBodies
 pub mod FirstWorld
 pub mod FirstTheorem
+pub mod FirstForms

@@ -1,1 +1,2 @@
 pub mod FirstMerge
+pub mod MergedProgram

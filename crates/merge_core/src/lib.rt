@@ -1,2 +1,9 @@
-//! The merge of two versions, a transformer and a client into one program.
+//! The merge of two versions and a transformer into one program: of the first form of sources so
+//! far. The proof that a merged program shows what the updating run shows covers every kind of
+//! statement.
 #![tactic(auto)]
+
+mod first_merge;
+mod merged_statement;
+
+pub use first_merge::merge_first;
