@@ -1,5 +1,13 @@
--- The plain mirror of an expression: one level of an expression that is built, and the way back.
-use Rattle.std.proofs.Common.{◌≡◌, ℤ, sym, ap, ap₂, ◌∙◌, subst}
+-- The plain mirrors of expressions and statements: one level of what is built, and the way back.
+use Rattle.std.proofs.Common.{◌≡◌, ℕ, ℤ, List, map, Option, sym, ap, ap₂, ◌∙◌, subst}
+use Rattle.std.specs.Option.{option_map}
+use Rattle.c_lang.specs.Trees.{Statement, statements, statement_of, statement_step, skip, set, set_element, call, call_by, if_else, while_loop, break_loop, return_with, assert_that, input, output, point, choice, force, pick}
+use Rattle.c_lang.specs.declared.unit.Pos.{Pos}
+use Rattle.c_lang.specs.declared.stmt.Dest.{Dest}
+use Rattle.c_lang.specs.declared.stmt.Stmt.{Stmt, roll-Stmt, map-Stmt, fold-roll-Stmt}
+use Rattle.c_lang.specs.declared.stmt.Stmt.TheOpen.{Stmt-F}
+use Rattle.c_lang.specs.declared.stmt.Stmt.TheOpen as one
+use Rattle.c_lang.specs.declared.stmt.Stmt.TheVariants as stmt
 use Rattle.c_lang.specs.Names.{Bytes}
 use Rattle.c_lang.specs.Trees.{Expression, literal, variable, element, function, null, negation, logical_not, binary, expression_of, expression_step, expr_of}
 use Rattle.c_lang.specs.declared.expr.Op.{Op}
@@ -67,3 +75,59 @@ built_level f built (Expr-F.Bin o a b) =
 pub expr_of-expression_of : (e : Expr) → expr_of (expression_of e) ≡ e
 expr_of-expression_of =
     ind-Expr IsBuilt (λ x y is. subst (λ (l : Expr-F Expr). IsBuilt (roll-Expr l)) is (built_level (λ s. s.0) (λ s. s.1) y))
+
+-- ---- statements
+
+statement_level : (l : Stmt-F Stmt) → statement_of (roll-Stmt l) ≡ statement_step (map-Stmt Stmt Statement statement_of l)
+statement_level l = fold-roll-Stmt Statement statement_step l
+
+pub statement_of-Skip : (p : Pos) → statement_of (stmt.Skip p) ≡ skip p
+statement_of-Skip p = ap statement_of (sym (stmt.rolls-Skip p)) ∙ statement_level (one.Skip p)
+
+pub statement_of-Set : (p : Pos) (d : Dest) (e : Expr) → statement_of (stmt.Set p d e) ≡ set p d (expression_of e)
+statement_of-Set p d e = ap statement_of (sym (stmt.rolls-Set p d e)) ∙ statement_level (one.Set p d e)
+
+pub statement_of-SetElem : (p : Pos) (a : Bytes) (i e : Expr) → statement_of (stmt.SetElem p a i e) ≡ set_element p a (expression_of i) (expression_of e)
+statement_of-SetElem p a i e = ap statement_of (sym (stmt.rolls-SetElem p a i e)) ∙ statement_level (one.SetElem p a i e)
+
+pub statement_of-Call : (p : Pos) (d : Dest) (f : Bytes) (es : List Expr) → statement_of (stmt.Call p d f es) ≡ call p d f (map expression_of es)
+statement_of-Call p d f es = ap statement_of (sym (stmt.rolls-Call p d f es)) ∙ statement_level (one.Call p d f es)
+
+pub statement_of-CallBy : (p : Pos) (d : Dest) (x : Bytes) (es : List Expr) → statement_of (stmt.CallBy p d x es) ≡ call_by p d x (map expression_of es)
+statement_of-CallBy p d x es = ap statement_of (sym (stmt.rolls-CallBy p d x es)) ∙ statement_level (one.CallBy p d x es)
+
+pub statement_of-If : (p : Pos) (e : Expr) (a b : List Stmt) → statement_of (stmt.If p e a b) ≡ if_else p (expression_of e) (statements (map statement_of a)) (statements (map statement_of b))
+statement_of-If p e a b = ap statement_of (sym (stmt.rolls-If p e a b)) ∙ statement_level (one.If p e a b)
+
+pub statement_of-While : (p : Pos) (e : Expr) (a : List Stmt) → statement_of (stmt.While p e a) ≡ while_loop p (expression_of e) (statements (map statement_of a))
+statement_of-While p e a = ap statement_of (sym (stmt.rolls-While p e a)) ∙ statement_level (one.While p e a)
+
+pub statement_of-Break : (p : Pos) → statement_of (stmt.Break p) ≡ break_loop p
+statement_of-Break p = ap statement_of (sym (stmt.rolls-Break p)) ∙ statement_level (one.Break p)
+
+pub statement_of-Return : (p : Pos) (e : Option Expr) → statement_of (stmt.Return p e) ≡ return_with p (option_map expression_of e)
+statement_of-Return p e = ap statement_of (sym (stmt.rolls-Return p e)) ∙ statement_level (one.Return p e)
+
+pub statement_of-Assert : (p : Pos) (e : Expr) → statement_of (stmt.Assert p e) ≡ assert_that p (expression_of e)
+statement_of-Assert p e = ap statement_of (sym (stmt.rolls-Assert p e)) ∙ statement_level (one.Assert p e)
+
+pub statement_of-Input : (p : Pos) (d : Dest) → statement_of (stmt.Input p d) ≡ input p d
+statement_of-Input p d = ap statement_of (sym (stmt.rolls-Input p d)) ∙ statement_level (one.Input p d)
+
+pub statement_of-Output : (p : Pos) (e : Expr) → statement_of (stmt.Output p e) ≡ output p (expression_of e)
+statement_of-Output p e = ap statement_of (sym (stmt.rolls-Output p e)) ∙ statement_level (one.Output p e)
+
+pub statement_of-Point : (p : Pos) (k : ℕ) → statement_of (stmt.Point p k) ≡ point p k
+statement_of-Point p k = ap statement_of (sym (stmt.rolls-Point p k)) ∙ statement_level (one.Point p k)
+
+pub statement_of-Choice : (p : Pos) (d : Dest) (k : ℕ) → statement_of (stmt.Choice p d k) ≡ choice p d k
+statement_of-Choice p d k = ap statement_of (sym (stmt.rolls-Choice p d k)) ∙ statement_level (one.Choice p d k)
+
+pub statement_of-Force : (p : Pos) → statement_of (stmt.Force p) ≡ force p
+statement_of-Force p = ap statement_of (sym (stmt.rolls-Force p)) ∙ statement_level (one.Force p)
+
+pub statement_of-Pick : (p : Pos) (a b : Stmt) → statement_of (stmt.Pick p a b) ≡ pick p (statement_of a) (statement_of b)
+statement_of-Pick p a b = ap statement_of (sym (stmt.rolls-Pick p a b)) ∙ statement_level (one.Pick p a b)
+
+-- one level of a statement that is built
+pub ruleset statement_levels = (statement_of-Skip, statement_of-Set, statement_of-SetElem, statement_of-Call, statement_of-CallBy, statement_of-If, statement_of-While, statement_of-Break, statement_of-Return, statement_of-Assert, statement_of-Input, statement_of-Output, statement_of-Point, statement_of-Choice, statement_of-Force, statement_of-Pick)

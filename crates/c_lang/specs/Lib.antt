@@ -1,5 +1,6 @@
 pub mod Names
 pub mod Units
+pub mod Operators
 pub mod Trees
 pub mod Values
 pub mod Evaluation

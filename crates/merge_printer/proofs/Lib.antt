@@ -1,0 +1,3 @@
+mod Ints
+mod Else
+mod Appends

@@ -1,0 +1,6 @@
+use Rattle.merge_printer.proofs.Appends.{four}
+use Rattle.merge_printer.proofs.statements.put_point.Goals as goal
+
+pub returns : goal.returns
+returns c =
+    four _ _ _ _ _ _ _ _ _ _ c.in_ok-put_position.ensures c.in_ok-put_text.ensures c.in_ok-put_number.ensures c.put_text-2.ensures

@@ -1,0 +1,10 @@
+//! The text of a merged program.
+#![tactic(auto)]
+
+mod declarations;
+mod expressions;
+mod program;
+mod statements;
+mod text;
+
+pub use program::program_text;
