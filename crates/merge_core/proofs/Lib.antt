@@ -12,3 +12,4 @@ pub mod FirstBodies
 pub mod FirstWorld
 pub mod FirstTheorem
 pub mod FirstForms
+pub mod PrintedLayout

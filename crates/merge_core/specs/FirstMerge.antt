@@ -95,3 +95,9 @@ pub record IsMergeOf (first second xform merged : Program) : Type 0 where
   pub parts : AreFirst first second xform
   pub layout : IsLayout (merged_layout parts.old parts.new parts.setter)
   pub program : layout_program (merged_layout parts.old parts.new parts.setter) ≡ merged
+
+-- a merged program of the first form
+pub record HasLayout (program : Program) : Type 0 where
+  pub layout : Layout
+  pub parts : IsLayout layout
+  pub is_program : layout_program layout ≡ program

@@ -4,6 +4,8 @@
 #![tactic(auto)]
 
 mod first_merge;
+mod first_print;
 mod merged_statement;
 
 pub use first_merge::merge_first;
+pub use first_print::print_first;
