@@ -1,5 +1,5 @@
 -- What `find` finds in a list of pairs is what is looked up in it.
-use Rattle.std.proofs.Common.{◌≡◌, ◌∙◌, refl, ap, ℕ, Bool, true, false, cond, List, [], ◌∷◌, map, Option, Some, None, find, option_map, ◌==◌, string_bytes, String, Vec}
+use Rattle.std.proofs.Common.{◌≡◌, ◌∙◌, refl, ap, ℕ, Bool, true, false, cond, List, [], ◌∷◌, map, Option, Some, find, option_map, ◌==◌, String, Vec}
 use Rattle.std.specs.declared.alloc.Global.{Global}
 use Rattle.outside.specs.MemFiles.{held_in}
 use Rattle.outside.specs.MemSink.{listed_for}

@@ -1,5 +1,5 @@
 -- Files in memory, and what a read of them does.
-use Rattle.std.specs.Prelude.{◌≡◌, ℕ, ◌≤◌, List, [], Option, Some, None, IsNone, Contains, take, bytes_eq, ◌⊎◌}
+use Rattle.std.specs.Prelude.{◌≡◌, ℕ, ◌≤◌, List, [], Option, Some, IsNone, Contains, take, bytes_eq, ◌⊎◌}
 use Rattle.std.specs.Map.{lookup}
 use Rattle.outside.specs.Counts.{next}
 

@@ -20,11 +20,11 @@ impl Model for MemFiles {
     ghost Value = { FilesInMemory };
 
     ghost view = { λ f. record {
-        files = map named f.files.items;
-        failing = f.failing.items;
-        calls = f.calls;
-        faults = f.faults;
-        failed = unwrap_or (option_map string_bytes f.failed) [];
+      files = map named f.files.items;
+      failing = f.failing.items;
+      calls = f.calls;
+      faults = f.faults;
+      failed = unwrap_or (option_map string_bytes f.failed) [];
     } };
 }
 

@@ -18,11 +18,11 @@ impl Model for MemSink {
     ghost Value = { SinkInMemory };
 
     ghost view = { λ s. record {
-        written = take s.used s.room.items;
-        room = length s.room.items - s.used;
-        failing = s.failing.items;
-        calls = s.calls;
-        faults = s.faults;
+      written = take s.used s.room.items;
+      room = length s.room.items - s.used;
+      failing = s.failing.items;
+      calls = s.calls;
+      faults = s.faults;
     } };
 
     ghost invariant = { λ s. s.used ≤ length s.room.items };
