@@ -1,0 +1,6 @@
+pub mod Cases
+pub mod Keywords
+pub mod PunctuatorLaws
+pub mod Runs
+pub mod Numbers
+pub mod Comments
