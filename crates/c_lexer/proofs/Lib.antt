@@ -4,3 +4,9 @@ pub mod PunctuatorLaws
 pub mod Runs
 pub mod Numbers
 pub mod Comments
+pub mod Directives
+pub mod Turns
+pub mod Complete
+pub mod Sound
+pub mod Spans
+pub mod LexLaws

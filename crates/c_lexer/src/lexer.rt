@@ -153,11 +153,9 @@ pub fn lex(alloc: Global, unit: Unit, bytes: &[u8]) -> Result<Vec<Token>, Fail>
 /// No text has two lists of tokens.
 pub fn one_token_list()
     ensures { (unit : Unit) (bytes : Bytes) (some other : List Token) → Lexed unit bytes some → Lexed unit bytes other → some ≡ other }
-{
-}
+{}
 
 /// No text is refused for two reasons.
 pub fn one_refusal()
     ensures { (unit : Unit) (bytes : Bytes) (why other : Refusal) → Refused unit bytes why → Refused unit bytes other → why ≡ other }
-{
-}
+{}

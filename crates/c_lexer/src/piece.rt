@@ -222,7 +222,12 @@ fn punctuator(text: &[u8]) -> (Piece, usize)
 /// The piece at the front of a text that isn't empty, and its length. `fresh` where only spaces
 /// and tabs stand before it on its line.
 #[tactic(auto, unfolding(crate::specs::Reading::piece_at))]
-pub fn piece_at(alloc: Global, unit: Unit, fresh: bool, text: &[u8]) -> Result<(Piece, usize), AllocError>
+pub fn piece_at(
+    alloc: Global,
+    unit: Unit,
+    fresh: bool,
+    text: &[u8],
+) -> Result<(Piece, usize), AllocError>
     requires { 0 < length text.now }
     ensures value { IfOk result (λ cut. cut ≡ spec.piece_at unit fresh text.now) }
     ensures within { IfOk result (IsWithin text.now) }
