@@ -1,7 +1,8 @@
 -- The clauses of `lex`, from what its loop computes.
-use Rattle.std.proofs.Common.{◌≡◌, ◌≢◌, ℕ, ◌<◌, ◌≤◌, List, [], ◌∷◌, length, Result, Ok, Err, refl, sym, ap, subst, ◌∙◌, arith}
+use Rattle.std.proofs.Common.{◌≡◌, ◌≢◌, ℕ, ◌<◌, ◌≤◌, List, [], ◌∷◌, length, Result, Ok, Err, refl, sym, ap, subst, ◌∙◌, arith, inl, inr}
 use Rattle.std.specs.Global.{Vec}
-use Rattle.std.specs.Prelude.{MatchResult, IfOk}
+use Rattle.std.specs.Prelude.{MatchResult, IfOk, ◌⊎◌}
+use Rattle.std.proofs.lemmas.Bool.{cases_lt}
 use Rattle.c_lang.specs.Names.{Bytes}
 use Rattle.c_lang.specs.Units.{size_limit}
 use Rattle.c_lang.specs.Sources.{at}
@@ -71,3 +72,17 @@ pub one_reason : (u : Unit) (z : Bytes) (why other : Refusal) → Refused u z wh
 one_reason u z why other (too_long long) b = only_long u z other long b
 one_reason u z why other (has_fault f p within is) b =
     err_is why other (sym (reads_refused u z why within (has_fault f p within is)) ∙ reads_refused u z other within b)
+
+pub either : (u : Unit) (z : Bytes) → ((length z ≤ size_limit u) × ((tokens : List Token) × Lexed u z tokens)) ⊎ ((why : Refusal) × Refused u z why)
+either u z = by_size (cases_lt (size_limit u) (length z))
+  where
+    by_outcome : length z ≤ size_limit u → (o : Outcome) → Means u (first_place u) z o → ((length z ≤ size_limit u) × ((tokens : List Token) × Lexed u z tokens)) ⊎ ((why : Refusal) × Refused u z why)
+    by_outcome within (Ok tokens) m = inl (within, (tokens, m))
+    by_outcome within (Err why) m = inr (refusal (fault_number m.fault) m.where_it_is, has_fault m.fault m.where_it_is within m.stops)
+    by_size : (size_limit u < length z) ⊎ (length z ≤ size_limit u) → ((length z ≤ size_limit u) × ((tokens : List Token) × Lexed u z tokens)) ⊎ ((why : Refusal) × Refused u z why)
+    by_size (inl long) = inr (refusal 27 (at u 1), too_long long)
+    by_size (inr within) = by_outcome within (reading u z) (means_whole u z (reading u z) refl)
+
+pub not_both : (u : Unit) (z : Bytes) (tokens : List Token) (why : Refusal) → length z ≤ size_limit u → Lexed u z tokens → Refused u z why → ⊥
+not_both u z tokens why within is refused =
+    let e = sym (cuts_again u (first_place u) z tokens is) ∙ reads_refused u z why within refused in cc

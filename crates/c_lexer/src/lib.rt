@@ -9,6 +9,6 @@ mod piece;
 mod token;
 mod words;
 
-pub use lexer::{Place, lex, one_refusal, one_token_list};
+pub use lexer::{Place, lex, lexed_or_refused, one_refusal, one_token_list};
 pub use piece::{Fault, Piece};
 pub use token::{Token, Word};
