@@ -79,6 +79,7 @@ either u z = by_size (cases_lt (size_limit u) (length z))
     by_outcome : length z ≤ size_limit u → (o : Outcome) → Means u (first_place u) z o → ((length z ≤ size_limit u) × ((tokens : List Token) × Lexed u z tokens)) ⊎ ((why : Refusal) × Refused u z why)
     by_outcome within (Ok tokens) m = inl (within, (tokens, m))
     by_outcome within (Err why) m = inr (refusal (fault_number m.fault) m.where_it_is, has_fault m.fault m.where_it_is within m.stops)
+
     by_size : (size_limit u < length z) ⊎ (length z ≤ size_limit u) → ((length z ≤ size_limit u) × ((tokens : List Token) × Lexed u z tokens)) ⊎ ((why : Refusal) × Refused u z why)
     by_size (inl long) = inr (refusal 27 (at u 1), too_long long)
     by_size (inr within) = by_outcome within (reading u z) (means_whole u z (reading u z) refl)

@@ -153,18 +153,15 @@ pub fn lex(alloc: Global, unit: Unit, bytes: &[u8]) -> Result<Vec<Token>, Fail>
 /// No text has two lists of tokens.
 pub fn one_token_list()
     ensures { (unit : Unit) (bytes : Bytes) (some other : List Token) → Lexed unit bytes some → Lexed unit bytes other → some ≡ other }
-{
-}
+{}
 
 /// No text is refused for two reasons.
 pub fn one_refusal()
     ensures { (unit : Unit) (bytes : Bytes) (why other : Refusal) → Refused unit bytes why → Refused unit bytes other → why ≡ other }
-{
-}
+{}
 
 /// Each text has tokens and is within the limit, or is refused for a reason, and none is both.
 pub fn lexed_or_refused()
     ensures either { (unit : Unit) (bytes : Bytes) → ((length bytes ≤ size_limit unit) × ((tokens : List Token) × Lexed unit bytes tokens)) ⊎ ((why : Refusal) × Refused unit bytes why) }
     ensures not_both { (unit : Unit) (bytes : Bytes) (tokens : List Token) (why : Refusal) → length bytes ≤ size_limit unit → Lexed unit bytes tokens → Refused unit bytes why → ⊥ }
-{
-}
+{}

@@ -6,6 +6,8 @@ mod bytes;
 mod directive;
 mod lexer;
 mod piece;
+#[cfg(test)]
+mod tests;
 mod token;
 mod words;
 
