@@ -1,16 +1,15 @@
 -- What a text is made of is read.
-use Rattle.std.proofs.Common.{◌≡◌, ℕ, ◌+◌, ◌≤◌, pos, Bool, true, false, not, ◌&&◌, ◌||◌, cond, eqb, List, [], ◌∷◌, ◌++◌, length, take, drop, Option, Some, None, Ok, Err, refl, sym, ap, subst, ◌∙◌, append_assoc, arith}
+use Rattle.std.proofs.Common.{◌≡◌, ℕ, ◌≤◌, Bool, true, false, ◌||◌, cond, eqb, List, [], ◌∷◌, ◌++◌, length, Some, Ok, Err, refl, sym, ap, ◌∙◌, append_assoc, arith}
 use Rattle.std.specs.Prelude.{slice_index}
-use Rattle.std.specs.List.{prefix_len, list_all}
+use Rattle.std.specs.List.{list_all}
 use Rattle.std.proofs.lemmas.List.{take_at, drop_at, length-append}
-use Rattle.std.proofs.lemmas.Bool.Decides.{nat_tests}
 use Rattle.c_lang.specs.Names.{Bytes, is_digit, is_letter, is_word}
 use Rattle.c_lang.specs.declared.unit.Unit.{Unit}
-use Rattle.c_lexer.specs.Bytes.{is_white, is_in_line, is_in_word, is_in_number, IsEnd, IsRun}
+use Rattle.c_lexer.specs.Bytes.{is_white, is_in_line, is_in_word, is_in_number, IsRun}
 use Rattle.c_lexer.specs.Words.{keyword_number, is_refused}
 use Rattle.c_lexer.specs.Punctuators.{punctuator_number, IsLongest}
-use Rattle.c_lexer.specs.Pieces.{has_close, begins_comment, IsNumber, IsPiece, white, block_comment, line_comment, include_line, position_line, number, keyword, identifier, punctuator}
-use Rattle.c_lexer.specs.Lexed.{Cuts, ends, goes, behind, turned, tokens_of}
+use Rattle.c_lexer.specs.Pieces.{begins_comment, IsNumber, IsPiece, white, block_comment, line_comment, include_line, position_line, number, keyword, identifier, punctuator}
+use Rattle.c_lexer.specs.Lexed.{Cuts, ends, goes, behind, tokens_of}
 use Rattle.c_lexer.specs.Reading as spec
 use Rattle.c_lexer.specs.Reading.{closing, piece_at, Outcome, kept, with_front, reading_from}
 use Rattle.c_lexer.specs.declared.token.Token.{Token}
@@ -19,7 +18,7 @@ use Rattle.c_lexer.specs.declared.piece.Piece.{Piece}
 use Rattle.c_lexer.specs.declared.piece.Piece.TheVariants as piece
 use Rattle.c_lexer.specs.declared.lexer.Place.{Place}
 use Rattle.c_lexer.proofs.Cases.{and_both, or_false, not_true}
-use Rattle.c_lexer.proofs.Runs.{run_again, first_of_text, first_all, all_mono, digit_not_white, digit_in_number, letter_not_white, letter_not_digit, letter_in_word}
+use Rattle.c_lexer.proofs.Runs.{run_again, first_of_text, first_all, digit_not_white, letter_not_white, letter_not_digit}
 use Rattle.c_lexer.proofs.Numbers.{number_again}
 use Rattle.c_lexer.proofs.Comments.{closing_again}
 use Rattle.c_lexer.proofs.PunctuatorLaws.{is_mark, first_is_mark, at_least_one, at_most_two, pair_is}

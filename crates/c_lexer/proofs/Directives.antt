@@ -1,16 +1,15 @@
 -- The directives that are read are those that stand there.
-use Rattle.std.proofs.Common.{◌≡◌, ℕ, zero, suc, ◌+◌, ◌≤◌, Bool, true, false, not, ◌&&◌, ◌||◌, cond, eqb, List, [], ◌∷◌, ◌++◌, length, take, drop, Option, Some, None, refl, sym, ap, subst, ◌∙◌, arith, inl, inr}
-use Rattle.std.specs.Prelude.{◌⊎◌, bytes_eq, nat_eq, slice_index, codes}
-use Rattle.std.specs.List.{prefix_len, list_all, starts_with}
-use Rattle.std.proofs.lemmas.List.{take_at, drop_at, take-append-drop, length-take}
-use Rattle.std.proofs.lemmas.List.Sums.{prefix_len-le-length}
+use Rattle.std.proofs.Common.{◌≡◌, ℕ, ◌≤◌, Bool, true, false, not, eqb, [], ◌∷◌, ◌++◌, length, take, drop, Option, Some, None, refl, sym, ap, subst, ◌∙◌, arith, inl, inr}
+use Rattle.std.specs.Prelude.{bytes_eq, nat_eq, slice_index, codes}
+use Rattle.std.specs.List.{prefix_len, starts_with}
+use Rattle.std.proofs.lemmas.List.{take_at, drop_at, take-append-drop}
 use Rattle.std.proofs.lemmas.Bool.Decides.{nat_tests}
 use Rattle.c_lang.specs.Names.{Bytes, is_digit}
 use Rattle.c_lang.specs.Layout.{HasPrograms}
 use Rattle.c_lang.specs.declared.unit.Unit.{Unit}
 use Rattle.c_lang.specs.declared.unit.Unit.TheVariants as unit
 use Rattle.c_lang.specs.declared.unit.Pos.{Pos}
-use Rattle.c_lexer.specs.Bytes.{is_space, is_blank, is_in_word, IsEnd, IsRun}
+use Rattle.c_lexer.specs.Bytes.{is_space, is_blank, is_in_word, IsEnd}
 use Rattle.c_lexer.specs.Pieces.{IsNumber, IsInclude, IsGap, quoted, SetsPosition}
 use Rattle.c_lexer.specs.Reading.{begins_include, is_include, behind_spaces, quoted_unit, unit_by, position_by, number_of, numbered, numbered_by, position_of, position_in}
 use Rattle.c_lexer.proofs.Cases.{chosen, and_both, not_true, same_bytes}

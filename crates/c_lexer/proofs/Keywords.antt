@@ -1,12 +1,12 @@
 -- The place of a word in the sorted table is the number of keywords that come before it.
-use Rattle.std.proofs.Common.{◌≡◌, ℕ, ◌+◌, Bool, true, false, ◌&&◌, ◌||◌, cond, eqb, List, [], ◌∷◌, map, Option, Some, None, refl, sym, ap, subst, ◌∙◌, inl, inr}
-use Rattle.std.specs.Prelude.{◌⊎◌, bytes_eq}
+use Rattle.std.proofs.Common.{◌≡◌, ℕ, ◌+◌, Bool, true, false, ◌&&◌, ◌||◌, eqb, List, [], ◌∷◌, map, Option, Some, None, refl, sym, ap, subst, ◌∙◌, inl, inr}
+use Rattle.std.specs.Prelude.{bytes_eq}
 use Rattle.std.specs.List.{position_from, list_any, list_all}
 use Rattle.std.proofs.lemmas.Bool.{eqb-true}
 use Rattle.c_lang.specs.Names.{Bytes}
 use Rattle.c_lexer.specs.Words.{keywords, keyword_number}
 use Rattle.c_lexer.specs.declared.words.TheConstants.{KEYWORDS}
-use Rattle.c_lexer.proofs.Cases.{chosen, and_both, or_false, by_option, same_bytes}
+use Rattle.c_lexer.proofs.Cases.{chosen, and_both, by_option, same_bytes}
 
 abbrev table : List Bytes
 table = map (λ entry. entry.now) KEYWORDS

@@ -1,12 +1,12 @@
 -- What the table of punctuators says of their bytes.
-use Rattle.std.proofs.Common.{◌≡◌, ℕ, ◌+◌, ◌<◌, ◌≤◌, Bool, true, false, not, ◌&&◌, ◌||◌, cond, eqb, leb, List, [], ◌∷◌, length, Option, Some, None, refl, sym, ap, subst, ◌∙◌, arith, inl, inr}
-use Rattle.std.specs.Prelude.{◌⊎◌, bytes_eq, slice_index}
+use Rattle.std.proofs.Common.{◌≡◌, ℕ, ◌+◌, ◌≤◌, Bool, true, not, ◌||◌, eqb, leb, List, [], ◌∷◌, length, Some, refl, sym, inl, inr}
+use Rattle.std.specs.Prelude.{bytes_eq, slice_index}
 use Rattle.std.specs.List.{position_from, list_all}
 use Rattle.std.proofs.lemmas.Bool.{leb-true}
 use Rattle.c_lang.specs.Names.{Bytes, is_digit, is_letter}
 use Rattle.c_lexer.specs.Bytes.{is_white}
 use Rattle.c_lexer.specs.Punctuators.{punctuators, punctuator_number}
-use Rattle.c_lexer.specs.Reading.{pair, pairs, pair_in}
+use Rattle.c_lexer.specs.Reading.{pair}
 use Rattle.c_lexer.proofs.Cases.{chosen, and_both, and_false, and_true, same_bytes}
 
 -- what all entries of a table have, a text has that is found in it

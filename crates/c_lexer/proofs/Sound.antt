@@ -1,5 +1,5 @@
 -- What is read is what the text is made of, and what is refused is its first fault.
-use Rattle.std.proofs.Common.{◌≡◌, ℕ, zero, suc, ◌+◌, ◌-◌, ◌≤◌, pos, Bool, true, false, not, ◌&&◌, ◌||◌, cond, eqb, List, [], ◌∷◌, ◌++◌, length, take, drop, Option, Some, None, Ok, Err, refl, sym, ap, subst, ◌∙◌, append_assoc, arith}
+use Rattle.std.proofs.Common.{◌≡◌, ℕ, zero, suc, ◌+◌, ◌≤◌, Bool, true, false, not, ◌||◌, cond, eqb, [], ◌∷◌, ◌++◌, length, take, drop, Option, Some, None, Ok, Err, refl, ap, subst, ◌∙◌, append_assoc, arith}
 use Rattle.std.specs.Prelude.{slice_index}
 use Rattle.std.specs.List.{prefix_len, list_all}
 use Rattle.std.proofs.lemmas.List.{take_at, drop_at, length-append, take-append-drop, length-take, length-drop}
@@ -8,7 +8,6 @@ use Rattle.std.proofs.lemmas.Bool.{eqb-true}
 use Rattle.std.proofs.lemmas.Bool.Decides.{nat_tests}
 use Rattle.c_lang.specs.Names.{Bytes, is_digit, is_letter, is_word}
 use Rattle.c_lang.specs.declared.unit.Unit.{Unit}
-use Rattle.c_lang.specs.declared.unit.Unit.TheVariants as unit
 use Rattle.c_lang.specs.declared.unit.Pos.{Pos}
 use Rattle.c_lang.specs.declared.refusal.Refusal.{Refusal}
 use Rattle.c_lexer.specs.Bytes.{is_white, is_in_line, is_in_word, is_in_number, IsRun}
@@ -20,8 +19,6 @@ use Rattle.c_lexer.specs.Lexed as whole
 use Rattle.c_lexer.specs.Lexed.{behind, tokens_of, Cuts, Stops, refusal}
 use Rattle.c_lexer.specs.Reading as spec
 use Rattle.c_lexer.specs.Reading.{Cut, closing, piece_at, Outcome, with_front, reading_from}
-use Rattle.c_lexer.specs.declared.token.Token.{Token}
-use Rattle.c_lexer.specs.declared.token.Word.TheVariants as w
 use Rattle.c_lexer.specs.declared.piece.Fault.{Fault}
 use Rattle.c_lexer.specs.declared.piece.Fault.TheVariants as fault
 use Rattle.c_lexer.specs.declared.piece.Piece.{Piece}
@@ -31,9 +28,9 @@ use Rattle.c_lexer.proofs.Cases.{by_test, by_option, and_both, or_false, not_tru
 use Rattle.c_lexer.proofs.Runs.{run_again, run_is, run_length, run_some, first_taken, first_of_text, letter_in_word, digit_in_number}
 use Rattle.c_lexer.proofs.Numbers.{number_again, number_is}
 use Rattle.c_lexer.proofs.Comments.{open_is, open_again, closing_is}
-use Rattle.c_lexer.proofs.PunctuatorLaws.{is_mark, at_most_two, pair_is}
+use Rattle.c_lexer.proofs.PunctuatorLaws.{at_most_two, pair_is}
 use Rattle.c_lexer.proofs.Directives.{include_is, include_again, in_unit_is, in_unit_again}
-use Rattle.c_lexer.proofs.Complete.{at_number, at_word, at_hash, at_mark, number_piece, line_piece, word_some, word_first, piece_some, piece_read}
+use Rattle.c_lexer.proofs.Complete.{at_number, at_word, number_piece, line_piece, word_some, word_first, piece_some, piece_read}
 
 -- the text has this piece at its front, of so many bytes
 abbrev HasPiece : Unit → Bool → Bytes → Piece → ℕ → Type 0

@@ -1,5 +1,5 @@
 -- The tokens' spans are in order, and each token is what its slice says.
-use Rattle.std.proofs.Common.{◌≡◌, ℕ, ◌+◌, ◌-◌, ◌<◌, ◌≤◌, Bool, List, [], ◌∷◌, ◌++◌, length, take, drop, refl, sym, ap, subst, ◌∙◌, append_assoc, arith}
+use Rattle.std.proofs.Common.{◌≡◌, ℕ, ◌+◌, ◌-◌, ◌≤◌, Bool, List, [], ◌∷◌, ◌++◌, length, refl, sym, ap, subst, ◌∙◌, append_assoc, arith}
 use Rattle.std.specs.Prelude.{⊤, slice_range}
 use Rattle.std.proofs.lemmas.List.{take_at, drop_at, length-append}
 use Rattle.c_lang.specs.Names.{Bytes}
@@ -9,7 +9,6 @@ use Rattle.c_lexer.specs.Pieces.{IsPiece}
 use Rattle.c_lexer.specs.Lexed as whole
 use Rattle.c_lexer.specs.Lexed.{after_byte, after_bytes, turned, behind, token, tokens_of, Cuts, Says, AreSpans}
 use Rattle.c_lexer.specs.declared.token.Token.{Token}
-use Rattle.c_lexer.specs.declared.token.Word.{Word}
 use Rattle.c_lexer.specs.declared.piece.Piece.{Piece}
 use Rattle.c_lexer.specs.declared.piece.Piece.TheVariants as piece
 use Rattle.c_lexer.specs.declared.lexer.Place.{Place}

@@ -1,5 +1,5 @@
 -- Classes of bytes, and runs of them.
-use Rattle.std.specs.Prelude.{⊤, ◌≡◌, ℕ, Bool, true, false, not, ◌&&◌, ◌||◌, ◌==◌, nat_le, List, [], ◌∷◌}
+use Rattle.std.specs.Prelude.{⊤, ◌≡◌, ℕ, Bool, true, false, not, ◌&&◌, ◌||◌, ◌==◌, nat_le, [], ◌∷◌}
 use Rattle.std.specs.List.{list_all}
 use Rattle.c_lang.specs.Names.{Bytes, is_digit, is_letter}
 

@@ -1,5 +1,5 @@
 -- The tokens of a text, and why a text is refused.
-use Rattle.std.specs.Prelude.{⊤, ◌≡◌, ℕ, ◌+◌, ◌-◌, ◌<◌, ◌≤◌, pos, Bool, true, ◌&&◌, ◌||◌, if◌then◌else◌, ◌==◌, List, [], ◌∷◌, ◌++◌, length, slice_range, Some, None}
+use Rattle.std.specs.Prelude.{⊤, ◌≡◌, ℕ, ◌+◌, ◌-◌, ◌<◌, ◌≤◌, pos, true, ◌&&◌, ◌||◌, if◌then◌else◌, ◌==◌, List, [], ◌∷◌, ◌++◌, length, slice_range, Some, None}
 use Rattle.c_lang.specs.Names.{Bytes}
 use Rattle.c_lang.specs.Units.{size_limit}
 use Rattle.c_lang.specs.Sources.{at}

@@ -1,6 +1,6 @@
 -- What stands at the front of a text: white space, a comment, a directive, a token, or a fault.
 -- Each piece is as long as it can be, so its conditions also speak of the rest behind it.
-use Rattle.std.specs.Prelude.{◌≡◌, ◌≢◌, ℕ, ◌+◌, ◌-◌, ◌*◌, ◌<◌, ◌≤◌, pos, Bool, true, false, ◌&&◌, ◌||◌, ◌==◌, List, [], ◌∷◌, ◌++◌, length, slice_index, Some, None, codes}
+use Rattle.std.specs.Prelude.{◌≡◌, ◌≢◌, ℕ, ◌+◌, ◌-◌, ◌*◌, ◌<◌, ◌≤◌, pos, Bool, true, false, ◌&&◌, ◌||◌, ◌==◌, [], ◌∷◌, ◌++◌, length, slice_index, Some, None, codes}
 use Rattle.std.specs.List.{list_all}
 use Rattle.c_lang.specs.Names.{Bytes, is_digit, is_word}
 use Rattle.c_lang.specs.Units.{word}

@@ -1,5 +1,5 @@
 -- What the functions compute, as functions on lists. The contract of `lex` doesn't speak of them.
-use Rattle.std.specs.Prelude.{⊤, ◌≡◌, ℕ, ℤ, pos, zero, suc, ◌+◌, ◌-◌, ◌*◌, ◌<◌, ◌≤◌, Bool, true, false, not, ◌&&◌, ◌||◌, if◌then◌else◌, ◌==◌, nat_lt, nat_le, nat_eq, bytes_eq, List, [], ◌∷◌, ◌++◌, length, take, drop, slice_index, Option, Some, None, Result, Ok, Err, codes}
+use Rattle.std.specs.Prelude.{⊤, ◌≡◌, ℕ, pos, zero, suc, ◌+◌, ◌-◌, ◌*◌, ◌≤◌, Bool, not, ◌&&◌, if◌then◌else◌, ◌==◌, nat_lt, nat_le, nat_eq, bytes_eq, List, [], ◌∷◌, ◌++◌, length, take, drop, slice_index, Option, Some, None, Result, Ok, Err, codes}
 use Rattle.std.specs.List.{starts_with, prefix_len}
 use Rattle.c_lang.specs.Names.{Bytes, is_digit, is_letter}
 use Rattle.c_lang.specs.declared.unit.Unit.{Unit}

@@ -208,7 +208,7 @@ fn sizes_are_limited(rt: HostRuntime) -> Result<(), AllocError> {
     for byte in b"int main(void) { return 0; }" {
         text.push(*byte)?;
     }
-    while text.len() < 262_144 {
+    for _ in text.len()..262_144 {
         text.push(b' ')?;
     }
     assert_eq!(rt;

@@ -1,4 +1,4 @@
-use Rattle.std.proofs.Common.{◌≡◌, ◌≤◌, ◌∙◌, sym, subst, ap, length, arith, length-drop}
+use Rattle.std.proofs.Common.{◌≤◌, ◌∙◌, sym, subst, length, arith, length-drop}
 use Rattle.std.proofs.lemmas.List.{take_rest, length-take}
 use Rattle.std.proofs.lemmas.Bool.{eqb-true}
 use Rattle.std.proofs.lemmas.Result.{err_from_is_err_and}
