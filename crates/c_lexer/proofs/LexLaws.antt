@@ -31,7 +31,7 @@ answers u z (Ok tokens) within h = (within, means_whole u z (Ok tokens.items) h)
 answers u z (Err fail.NoMemory) within h = tt
 answers u z (Err (fail.Refused why)) within h =
     let m = means_whole u z (Err why) h in
-    subst (Refused u z) (sym m.same) (has_fault m.fault m.where_it_is within m.stops)
+    subst (Refused u z) (sym m.same) (has_fault m.fault m.position within m.stops)
 
 pub only : (u : Unit) (z : Bytes) (r : Result (Vec Token) Fail) → Reads u z r → (tokens : List Token) → Lexed u z tokens → MatchResult r (λ answer. answer.items ≡ tokens) (λ f. f ≡ fail.NoMemory)
 only u z (Ok answer) h tokens is = let e = cuts_again u (first_place u) z tokens is in ok_is answer.items tokens (sym h ∙ e)
@@ -78,7 +78,7 @@ either u z = by_size (cases_lt (size_limit u) (length z))
   where
     by_outcome : length z ≤ size_limit u → (o : Outcome) → Means u (first_place u) z o → ((length z ≤ size_limit u) × ((tokens : List Token) × Lexed u z tokens)) ⊎ ((why : Refusal) × Refused u z why)
     by_outcome within (Ok tokens) m = inl (within, (tokens, m))
-    by_outcome within (Err why) m = inr (refusal (fault_number m.fault) m.where_it_is, has_fault m.fault m.where_it_is within m.stops)
+    by_outcome within (Err why) m = inr (refusal (fault_number m.fault) m.position, has_fault m.fault m.position within m.stops)
 
     by_size : (size_limit u < length z) ⊎ (length z ≤ size_limit u) → ((length z ≤ size_limit u) × ((tokens : List Token) × Lexed u z tokens)) ⊎ ((why : Refusal) × Refused u z why)
     by_size (inl long) = inr (refusal 27 (at u 1), too_long long)

@@ -231,9 +231,9 @@ stops_again u p z why q (whole.later _ front rest x _ _ is others) =
 
 pub record IsStopped (u : Unit) (p : Place) (z : Bytes) (why : Refusal) : Type 0 where
   pub fault : Fault
-  pub where_it_is : Pos
-  pub stops : Stops u p z fault where_it_is
-  pub same : why ≡ refusal (fault_number fault) where_it_is
+  pub position : Pos
+  pub stops : Stops u p z fault position
+  pub same : why ≡ refusal (fault_number fault) position
 
 abbrev pub Means : Unit → Place → Bytes → Outcome → Type 0
 Means u p z (Ok tokens) = Cuts u p z tokens
@@ -242,7 +242,7 @@ Means u p z (Err why) = IsStopped u p z why
 means_more : (u : Unit) (p : Place) (front rest : Bytes) (x : Piece) (more : Outcome) → IsPiece u p.fresh rest front x → Means u (behind p x front) rest more → Means u p (front ++ rest) (with_front (tokens_of p x front) more)
 means_more u p front rest x (Ok tokens) is m = whole.goes p front rest x tokens is m
 means_more u p front rest x (Err why) is m =
-    record { fault = m.fault; where_it_is = m.where_it_is; stops = whole.later p front rest x m.fault m.where_it_is is m.stops; same = m.same }
+    record { fault = m.fault; position = m.position; stops = whole.later p front rest x m.fault m.position is m.stops; same = m.same }
 
 abbrev Rest : Unit → Place → Bytes → Type 0
 Rest u p rest = Means u p rest (reading_from u 0 p rest)
@@ -257,7 +257,7 @@ means_piece u p z x n met more =
 
 means_turn : (u : Unit) (p : Place) (z : Bytes) (x : Piece) (n : ℕ) → 1 ≤ length z → piece_at u p.fresh z ≡ (x, n) → Meets u p.fresh z (x, n) → (1 ≤ n → Rest u (behind p x (take n z)) (drop n z)) → Rest u p z
 means_turn u p z (piece.Fault why) n some e met more =
-    rw (bad_first u p z why some (n, e)) (record { fault = why; where_it_is = p.pos; stops = whole.here p z why met; same = refl })
+    rw (bad_first u p z why some (n, e)) (record { fault = why; position = p.pos; stops = whole.here p z why met; same = refl })
 means_turn u p z piece.Space n some e met more = means_piece u p z piece.Space n met more
 means_turn u p z (piece.Position q) n some e met more = means_piece u p z (piece.Position q) n met more
 means_turn u p z (piece.Token what) n some e met more = means_piece u p z (piece.Token what) n met more

@@ -3,12 +3,31 @@ use Rattle.std.specs.Prelude.{⊤, ◌≡◌, ℕ, Bool, true, false, not, ◌&&
 use Rattle.std.specs.List.{list_all}
 use Rattle.c_lang.specs.Names.{Bytes, is_digit, is_letter}
 
+-- bytes that have a part of their own
+abbrev pub line_feed : ℕ
+line_feed = 10
+
+abbrev pub space : ℕ
+space = 32
+
+abbrev pub quote : ℕ
+quote = 34
+
+abbrev pub hash : ℕ
+hash = 35
+
+abbrev pub star : ℕ
+star = 42
+
+abbrev pub slash : ℕ
+slash = 47
+
 -- space, tab, line feed, vertical tab, form feed and carriage return
 abbrev pub is_white : ℕ → Bool
 is_white byte = byte == 32 || (nat_le 9 byte && nat_le byte 13)
 
 abbrev pub is_space : ℕ → Bool
-is_space byte = byte == 32
+is_space byte = byte == space
 
 -- space and tab
 abbrev pub is_blank : ℕ → Bool
@@ -16,7 +35,7 @@ is_blank byte = byte == 32 || byte == 9
 
 -- all but the line feed, which ends a line
 abbrev pub is_in_line : ℕ → Bool
-is_in_line byte = not (byte == 10)
+is_in_line byte = not (byte == line_feed)
 
 -- letters, digits and `_`
 abbrev pub is_in_word : ℕ → Bool

@@ -8,7 +8,7 @@ use Rattle.c_lang.specs.declared.unit.Pos.{Pos}
 use Rattle.c_lang.specs.declared.refusal.Fail.{Fail}
 use Rattle.c_lang.specs.declared.refusal.Fail.TheVariants as fail
 use Rattle.c_lang.specs.declared.refusal.Refusal.{Refusal}
-use Rattle.c_lexer.specs.Bytes.{is_blank}
+use Rattle.c_lexer.specs.Bytes.{line_feed, is_blank}
 use Rattle.c_lexer.specs.Words.{keyword_number}
 use Rattle.c_lexer.specs.Punctuators.{punctuator_number}
 use Rattle.c_lexer.specs.Pieces.{IsNumber, IsPiece, IsFault, fault_number}
@@ -24,8 +24,8 @@ use Rattle.c_lexer.specs.declared.lexer.Place.{Place}
 abbrev pub after_byte : Place → ℕ → Place
 after_byte p byte = record {
   offset = p.offset + 1;
-  pos = record { unit = p.pos.unit; line = if byte == 10 then p.pos.line + 1 else p.pos.line };
-  fresh = byte == 10 || (p.fresh && is_blank byte);
+  pos = record { unit = p.pos.unit; line = if byte == line_feed then p.pos.line + 1 else p.pos.line };
+  fresh = byte == line_feed || (p.fresh && is_blank byte);
 }
 
 abbrev pub after_bytes : Place → Bytes → Place
@@ -54,10 +54,13 @@ tokens_of p piece.Space text = []
 tokens_of p (piece.Position given) text = []
 tokens_of p (piece.Fault fault) text = []
 
--- From this place on the text is made of pieces, and these are their tokens.
+-- From this place on the text is a row of pieces, and these are their tokens.
 pub data Cuts (unit : Unit) : Place → Bytes → List Token → Type 0 where
   ends : (p : Place) → Cuts unit p [] []
-  goes : (p : Place) (text rest : Bytes) (x : Piece) (tokens : List Token) → IsPiece unit p.fresh rest text x → Cuts unit (behind p x text) rest tokens → Cuts unit p (text ++ rest) (tokens_of p x text ++ tokens)
+  goes : (p : Place) (text rest : Bytes) (x : Piece) (tokens : List Token)
+      → IsPiece unit p.fresh rest text x
+      → Cuts unit (behind p x text) rest tokens
+      → Cuts unit p (text ++ rest) (tokens_of p x text ++ tokens)
 
 abbrev pub first_place : Unit → Place
 first_place unit = record { offset = 0; pos = at unit 1; fresh = true }
@@ -66,18 +69,27 @@ first_place unit = record { offset = 0; pos = at unit 1; fresh = true }
 abbrev pub Lexed : Unit → Bytes → List Token → Type 0
 Lexed unit bytes tokens = Cuts unit (first_place unit) bytes tokens
 
--- From this place on the text is made of pieces up to this fault, which has this position.
+-- From this place on the text is a row of pieces and then this fault, which has this position.
 pub data Stops (unit : Unit) : Place → Bytes → Fault → Pos → Type 0 where
-  here : (p : Place) (bytes : Bytes) (fault : Fault) → IsFault unit p.fresh bytes fault → Stops unit p bytes fault p.pos
-  later : (p : Place) (text rest : Bytes) (x : Piece) (fault : Fault) (where_it_is : Pos) → IsPiece unit p.fresh rest text x → Stops unit (behind p x text) rest fault where_it_is → Stops unit p (text ++ rest) fault where_it_is
+  here : (p : Place) (bytes : Bytes) (fault : Fault)
+      → IsFault unit p.fresh bytes fault
+      → Stops unit p bytes fault p.pos
+  later : (p : Place) (text rest : Bytes) (x : Piece) (fault : Fault) (position : Pos)
+      → IsPiece unit p.fresh rest text x
+      → Stops unit (behind p x text) rest fault position
+      → Stops unit p (text ++ rest) fault position
 
 abbrev pub refusal : ℕ → Pos → Refusal
 refusal number p = record { number = number; pos = p; name = None }
 
 -- the text is refused for this reason: it is too long, or else it has this fault first
 pub data Refused (unit : Unit) (bytes : Bytes) : Refusal → Type 0 where
-  too_long : size_limit unit < length bytes → Refused unit bytes (refusal 27 (at unit 1))
-  has_fault : (fault : Fault) (p : Pos) → length bytes ≤ size_limit unit → Stops unit (first_place unit) bytes fault p → Refused unit bytes (refusal (fault_number fault) p)
+  too_long : size_limit unit < length bytes
+      → Refused unit bytes (refusal 27 (at unit 1))
+  has_fault : (fault : Fault) (p : Pos)
+      → length bytes ≤ size_limit unit
+      → Stops unit (first_place unit) bytes fault p
+      → Refused unit bytes (refusal (fault_number fault) p)
 
 abbrev pub IsRefusedAs : Fail → Unit → Bytes → Type 0
 IsRefusedAs fail.NoMemory unit bytes = ⊤
