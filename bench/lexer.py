@@ -4,32 +4,30 @@
 usage: bench/lexer.py FOLDER
 
 FOLDER is made if need be. A copy of the crates is proved and built there, with a small program that reads
-a merged text from standard input and prints how many tokens it has. Each text is run nine times, and the
-quickest run counts, since other work on the machine only adds to it. The run ends with status 1 where a
-text of twice the size takes more than 2.3 times as long, where fewer than 20 MB are read a second, or
-where a byte of text takes more than 80 bytes of memory.
+a merged text from standard input and prints how many tokens it has. The processor time of a whole run of
+the program counts. Each text is run fifteen times, and the quickest run counts, since other work on the
+machine only adds to it. This script ends with status 1 where a text of twice the size takes more than 2.3
+times as long, where fewer than 20 MB are read a second, or where a byte of text takes more than 80 bytes
+of memory.
 """
 import os, pathlib, shutil, subprocess, sys
 
-PROGRAM = '''//! Reads a merged text from standard input, and prints how many tokens it has and how long that took.
+PROGRAM = '''//! Reads a merged text from standard input, and prints how many tokens it has.
 #![tactic(auto)]
 
 use c_lang::Unit;
 use c_lexer::lex;
 use std::io;
 use std::io::Read;
-use std::time::Instant;
 
 fn main(rt: HostRuntime) -> io::Result<()> {
     let mut text = Vec::new(rt.alloc());
     rt.reader().read_to_end(&mut text)?;
-    let start = Instant::now(&rt)?;
     let count = match lex(rt.alloc(), Unit::Merge, &text) {
         Ok(tokens) => tokens.len(),
         Err(_) => 0,
     };
-    let spent = start.elapsed(&rt)?;
-    println!(rt; "{count} {}", spent.as_micros())?;
+    println!(rt; "{count}")?;
     Ok(())
 }
 '''
@@ -75,17 +73,17 @@ def build(folder):
 
 
 def measure(program, path):
-    """The tokens, the quickest of nine runs in seconds, and the largest run's memory in bytes."""
+    """The tokens, the quickest of fifteen runs in seconds, and the largest run's memory in bytes."""
     times, memory, count = [], 0, 0
-    for _ in range(9):
+    for _ in range(15):
         with open(path, "rb") as text:
             run = subprocess.Popen([program], stdin=text, stdout=subprocess.PIPE)
             said = run.stdout.read()
         _, status, used = os.wait4(run.pid, 0)
         if status:
             sys.exit(f"the program ended with {status}")
-        count, micros = map(int, said.split())
-        times.append(micros / 1e6)
+        count = int(said)
+        times.append(used.ru_utime + used.ru_stime)
         memory = max(memory, used.ru_maxrss * 1024)
     return count, min(times), memory
 
