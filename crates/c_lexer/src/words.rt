@@ -1,11 +1,13 @@
 //! Keywords and reserved words.
 
-ghost use Rattle.std.specs.Prelude.{◌≡◌, ◌+◌, ◌<◌, length, map, bytes_eq};
-ghost use Rattle.std.specs.List.{position_from};
+ghost use Rattle.std.specs.Prelude.{◌≡◌, ◌<◌, [], map, length, get_or};
+ghost use Rattle.std.specs.Ordering.{nat_cmp};
+ghost use Rattle.std.specs.Cmp.Lexicographic.{slice_cmp};
 ghost use Rattle.c_lexer.specs.Words as spec;
 
 use crate::bytes::is_same;
 use c_lang::Unit;
+use std::cmp::Ordering;
 
 /// The words that are no identifiers, in the order of their bytes.
 pub const KEYWORDS: [&[u8]; 51] = [
@@ -62,27 +64,35 @@ pub const KEYWORDS: [&[u8]; 51] = [
     b"while",
 ];
 
-/// The place of a word in a table.
-fn place_in(mut table: &[&[u8]], word: &[u8]) -> Option<u8>
-    requires { length table.now < 256 }
-    ensures { result ≡ position_from (bytes_eq word.now) 0 (map (λ entry. entry.now) table.entry.now) }
+fn entry_at<'a>(table: &[&'a [u8]], place: usize) -> &'a [u8]
+    requires { place < length table.now }
+    ensures { result.now ≡ get_or (map (λ entry. entry.now) table.now) place [] }
 {
-    let mut place = 0;
-    while let [entry, rest @ ..] = table {
-        if is_same(word, entry) {
-            return Some(place);
-        }
-        place += 1;
-        table = rest;
-    }
-    None
+    table[place]
 }
 
-/// The number of a keyword.
+/// How two words stand in the order of their bytes.
+fn order_of(word: &[u8], other: &[u8]) -> Ordering
+    ensures { result ≡ slice_cmp nat_cmp word.now other.now }
+{
+    word.cmp(other)
+}
+
+/// The number of a keyword, which is its place in the table.
 pub fn keyword_number(word: &[u8]) -> Option<u8>
     ensures { result ≡ spec.keyword_number word.now }
 {
-    place_in(&KEYWORDS, word)
+    let mut low = 0;
+    let mut high = KEYWORDS.len();
+    while low < high {
+        let middle = low + (high - low) / 2;
+        match order_of(word, entry_at(&KEYWORDS, middle)) {
+            Ordering::Less => high = middle,
+            Ordering::Equal => return Some(middle as u8),
+            Ordering::Greater => low = middle + 1,
+        }
+    }
+    None
 }
 
 #[tactic(auto, unfolding(crate::specs::Words::is_allowed))]
