@@ -61,14 +61,16 @@ def merged(size):
 def build(folder):
     root = pathlib.Path(__file__).resolve().parent.parent
     for crate in ["c_lang", "c_lexer"]:
-        shutil.copytree(root / "crates" / crate, folder / "crates" / crate, dirs_exist_ok=True)
+        copy = folder / "crates" / crate
+        shutil.rmtree(copy, ignore_errors=True)
+        shutil.copytree(root / "crates" / crate, copy, ignore=shutil.ignore_patterns("out"))
     source = folder / "crates" / "lex_bench" / "src"
     source.mkdir(parents=True, exist_ok=True)
     (source / "main.rt").write_text(PROGRAM)
     (folder / "crates.txt").write_text(
         "c_lang: sqlite_items\nc_lexer: c_lang sqlite_items\nlex_bench: c_lang c_lexer sqlite_items\n"
     )
-    subprocess.run(["rt", "run"], cwd=source.parent, check=True, stdout=subprocess.DEVNULL)
+    subprocess.run(["rt", "run"], cwd=source.parent, check=True, stdout=subprocess.DEVNULL, stderr=subprocess.DEVNULL)
     return source.parent / "out" / "lex_bench"
 
 
