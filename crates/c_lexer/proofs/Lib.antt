@@ -1,0 +1,12 @@
+pub mod Cases
+pub mod Keywords
+pub mod PunctuatorLaws
+pub mod Runs
+pub mod Numbers
+pub mod Comments
+pub mod Directives
+pub mod Turns
+pub mod Complete
+pub mod Sound
+pub mod Spans
+pub mod LexLaws

@@ -1,0 +1,6 @@
+pub mod Bytes
+pub mod Words
+pub mod Punctuators
+pub mod Pieces
+pub mod Lexed
+pub mod Reading
