@@ -4,3 +4,4 @@ pub mod Many
 pub mod Tokens
 pub mod SourceLaws
 pub mod SourceIs
+pub mod Programs

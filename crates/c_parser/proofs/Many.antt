@@ -56,10 +56,10 @@ pub ends : {A : Type 0} (read : Reader A) (done : List A) (bytes : Bytes) (whole
 ends read done bytes whole e left =
     ap (λ z. (z, bytes)) (sym (append-nil done)) ∙ ap (λ more. joined done more) (sym (stops read bytes left.turns e)) ∙ left.same
 
-head_fits : {A : Type 0} (Fits : A → Type 0) (a : A) (list : List A) → All Fits (a ∷ list) → Fits a
+pub head_fits : {A : Type 0} (Fits : A → Type 0) (a : A) (list : List A) → All Fits (a ∷ list) → Fits a
 head_fits Fits a list all = all 0 a (omega arith)
 
-tail_fits : {A : Type 0} (Fits : A → Type 0) (a : A) (list : List A) → All Fits (a ∷ list) → All Fits list
+pub tail_fits : {A : Type 0} (Fits : A → Type 0) (a : A) (list : List A) → All Fits (a ∷ list) → All Fits list
 tail_fits Fits a list all = λ k d h. all (suc k) d (omega arith)
 
 pub shorter : {A : Type 0} (text : A → Bytes) (bytes rest : Bytes) (a : A) → 1 ≤ length (text a) → text a ++ rest ≡ bytes → length rest < length bytes
@@ -109,13 +109,13 @@ module _ {A : Type 0} (read : Reader A) (text : A → Bytes) (Fits : A → Type 
       → Exact (many_before read last) (λ x. flat_map text x.0 ++ closing x.1) (λ x. All Fits x.0 × FitsToo x.1)
   exact_many {B = B} last closing FitsToo m some none = record {
     complete = λ x rest ok.
-      rw append_assoc (rw (reads_many some x.0 (closing x.1 ++ rest) ok.0 (none x.1 rest ok.1)) (rw (m.complete x.1 rest ok.1) refl));
+        rw append_assoc (rw (reads_many some x.0 (closing x.1 ++ rest) ok.0 (none x.1 rest ok.1)) (rw (m.complete x.1 rest ok.1) refl));
     sound = λ bytes rest a e.
-      let y = bind_some (last (many read bytes).1) (λ y. Some (((many read bytes).0, y.0), y.1)) (a, rest) e in
-      let p = some_pair ((many read bytes).0, y.0.0) a y.0.1 rest y.2 in
-      let q = read_many bytes in
-      let r = m.sound (many read bytes).1 y.0.1 y.0.0 y.1 in
-      let list = (many read bytes).0 in
-      let whole : (flat_map text list ++ closing y.0.0) ++ y.0.1 ≡ bytes = append_assoc (flat_map text list) (closing y.0.0) y.0.1 ∙ ap (λ (z : Bytes). flat_map text list ++ z) r.1 ∙ q.1 in
-      (subst (λ (z : List A × B). All Fits z.0 × FitsToo z.1) p.0 (q.0, r.0), subst (λ (z : List A × B). (flat_map text z.0 ++ closing z.1) ++ rest ≡ bytes) p.0 (ap (λ (z : Bytes). (flat_map text list ++ closing y.0.0) ++ z) (sym p.1) ∙ whole));
+        let y = bind_some (last (many read bytes).1) (λ y. Some (((many read bytes).0, y.0), y.1)) (a, rest) e in
+        let p = some_pair ((many read bytes).0, y.0.0) a y.0.1 rest y.2 in
+        let q = read_many bytes in
+        let r = m.sound (many read bytes).1 y.0.1 y.0.0 y.1 in
+        let list = (many read bytes).0 in
+        let whole : (flat_map text list ++ closing y.0.0) ++ y.0.1 ≡ bytes = append_assoc (flat_map text list) (closing y.0.0) y.0.1 ∙ ap (λ (z : Bytes). flat_map text list ++ z) r.1 ∙ q.1 in
+        (subst (λ (z : List A × B). All Fits z.0 × FitsToo z.1) p.0 (q.0, r.0), subst (λ (z : List A × B). (flat_map text z.0 ++ closing z.1) ++ rest ≡ bytes) p.0 (ap (λ (z : Bytes). (flat_map text list ++ closing y.0.0) ++ z) (sym p.1) ∙ whole));
   }

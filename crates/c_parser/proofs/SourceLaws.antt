@@ -33,7 +33,7 @@ unfolding setting
 exact_setting set =
     exact_as _ _ _
     (exact_after _ _ _ (exact_number (behind (ended (codes ";"))) 59 (10 ∷ []) refl (exact_behind (ended (codes ";")))) (λ bytes. behind set bytes >>= behind (codes " = ")) (set ++ codes " = ")
-      (exact_steps (behind set) set (codes " = ") (exact_behind set)))
+    (exact_steps (behind set) set (codes " = ") (exact_behind set)))
     (λ value. ended (set_line set value)) (λ value. simp append_assoc)
 
 pub exact_asking : Exact asking (λ k. ended (codes "dsu_update(" ++ decimal k ++ codes ");")) FitsNumber
@@ -41,7 +41,7 @@ unfolding asking
 exact_asking =
     exact_as _ _ _
     (exact_after _ _ _ (exact_number (behind (ended (codes ");"))) 41 (59 ∷ 10 ∷ []) refl (exact_behind (ended (codes ");")))) (behind (codes "dsu_update(")) (codes "dsu_update(")
-      (exact_behind (codes "dsu_update(")))
+    (exact_behind (codes "dsu_update(")))
     (λ k. ended (codes "dsu_update(" ++ decimal k ++ codes ");")) (λ k. simp append_assoc)
 
 -- ---- words that end in different ways are apart
@@ -154,15 +154,15 @@ action_is shared bytes rest a e =
           let p = some_pair shows a x.0 rest x.2 in
           read_along shared bytes rest x.0 shows a p.0 p.1 (tt, behind_is (ended (show_line shared)) bytes x.0 (sym ((exact_show shared).same bytes) ∙ x.1))
       | inr h ↦ elim (or_some (asking bytes >>= (λ x. Some (asks x.0, x.1))) _ (a, rest) h.1) [
-          | inl g ↦
-              let x = bind_some (asking bytes) (λ x. Some (asks x.0, x.1)) (a, rest) g in
-              let p = some_pair (asks x.0.0) a x.0.1 rest x.2 in
-              read_along shared bytes rest x.0.1 (asks x.0.0) a p.0 p.1 (exact_asking.sound bytes x.0.1 x.0.0 x.1)
-          | inr g ↦
-              let x = bind_some (setting shared bytes) (λ x. Some (sets x.0, x.1)) (a, rest) g.1 in
-              let p = some_pair (sets x.0.0) a x.0.1 rest x.2 in
-              read_along shared bytes rest x.0.1 (sets x.0.0) a p.0 p.1 ((exact_setting shared).sound bytes x.0.1 x.0.0 x.1)
-        ]
+        | inl g ↦
+            let x = bind_some (asking bytes) (λ x. Some (asks x.0, x.1)) (a, rest) g in
+            let p = some_pair (asks x.0.0) a x.0.1 rest x.2 in
+            read_along shared bytes rest x.0.1 (asks x.0.0) a p.0 p.1 (exact_asking.sound bytes x.0.1 x.0.0 x.1)
+        | inr g ↦
+            let x = bind_some (setting shared bytes) (λ x. Some (sets x.0, x.1)) (a, rest) g.1 in
+            let p = some_pair (sets x.0.0) a x.0.1 rest x.2 in
+            read_along shared bytes rest x.0.1 (sets x.0.0) a p.0 p.1 ((exact_setting shared).sound bytes x.0.1 x.0.0 x.1)
+      ]
     ]
 
 pub exact_action : (shared : Bytes) → is_shared_name shared ≡ true → Exact (action_line shared) (action_text shared) FitsAction

@@ -123,12 +123,12 @@ pub exact_number : (back : Bytes → Option Bytes) (b : ℕ) (c : Bytes) → is_
 exact_number back b c other f = record {
   complete = λ n rest ok. rw append_assoc (rw (number_again n (b ∷ (c ++ rest)) ok other, f.same (b ∷ (c ++ rest)), behind_same (b ∷ c) rest) refl);
   sound = λ bytes rest n e.
-    let x = bind_some (number bytes) (λ x. back x.1 >>= (λ rest. Some (x.0, rest))) (n, rest) e in
-    let y = bind_some (back x.0.1) (λ rest. Some (x.0.0, rest)) (n, rest) x.2 in
-    let p = some_pair x.0.0 n y.0 rest y.2 in
-    let q = number_is bytes x.0.1 x.0.0 x.1 in
-    let back_is : (b ∷ c) ++ rest ≡ x.0.1 = ap (λ (z : Bytes). (b ∷ c) ++ z) (sym p.1) ∙ behind_is (b ∷ c) x.0.1 y.0 (sym (f.same x.0.1) ∙ y.1) in
-    (subst FitsNumber p.0 q.0, append_assoc (decimal n) (b ∷ c) rest ∙ ap (λ (z : Bytes). decimal n ++ z) back_is ∙ ap (λ (m : ℕ). decimal m ++ x.0.1) (sym p.0) ∙ q.1);
+      let x = bind_some (number bytes) (λ x. back x.1 >>= (λ rest. Some (x.0, rest))) (n, rest) e in
+      let y = bind_some (back x.0.1) (λ rest. Some (x.0.0, rest)) (n, rest) x.2 in
+      let p = some_pair x.0.0 n y.0 rest y.2 in
+      let q = number_is bytes x.0.1 x.0.0 x.1 in
+      let back_is : (b ∷ c) ++ rest ≡ x.0.1 = ap (λ (z : Bytes). (b ∷ c) ++ z) (sym p.1) ∙ behind_is (b ∷ c) x.0.1 y.0 (sym (f.same x.0.1) ∙ y.1) in
+      (subst FitsNumber p.0 q.0, append_assoc (decimal n) (b ∷ c) rest ∙ ap (λ (z : Bytes). decimal n ++ z) back_is ∙ ap (λ (m : ℕ). decimal m ++ x.0.1) (sym p.0) ∙ q.1);
 }
 
 -- ---- names
@@ -173,10 +173,10 @@ pub exact_name : (back : Bytes → Option Bytes) (b : ℕ) (c : Bytes) → is_in
 exact_name back b c other f = record {
   complete = λ word rest ok. rw append_assoc (rw (name_again word (b ∷ (c ++ rest)) ok other, f.same (b ∷ (c ++ rest)), behind_same (b ∷ c) rest) refl);
   sound = λ bytes rest word e.
-    let x = bind_some (name bytes) (λ x. back x.1 >>= (λ rest. Some (x.0, rest))) (word, rest) e in
-    let y = bind_some (back x.0.1) (λ rest. Some (x.0.0, rest)) (word, rest) x.2 in
-    let p = some_pair x.0.0 word y.0 rest y.2 in
-    let q = name_is bytes x.0.1 x.0.0 x.1 in
-    let back_is : (b ∷ c) ++ rest ≡ x.0.1 = ap (λ (z : Bytes). (b ∷ c) ++ z) (sym p.1) ∙ behind_is (b ∷ c) x.0.1 y.0 (sym (f.same x.0.1) ∙ y.1) in
-    (subst (λ (z : Bytes). is_shared_name z ≡ true) p.0 q.0, append_assoc word (b ∷ c) rest ∙ ap (λ (z : Bytes). word ++ z) back_is ∙ ap (λ (z : Bytes). z ++ x.0.1) (sym p.0) ∙ q.1);
+      let x = bind_some (name bytes) (λ x. back x.1 >>= (λ rest. Some (x.0, rest))) (word, rest) e in
+      let y = bind_some (back x.0.1) (λ rest. Some (x.0.0, rest)) (word, rest) x.2 in
+      let p = some_pair x.0.0 word y.0 rest y.2 in
+      let q = name_is bytes x.0.1 x.0.0 x.1 in
+      let back_is : (b ∷ c) ++ rest ≡ x.0.1 = ap (λ (z : Bytes). (b ∷ c) ++ z) (sym p.1) ∙ behind_is (b ∷ c) x.0.1 y.0 (sym (f.same x.0.1) ∙ y.1) in
+      (subst (λ (z : Bytes). is_shared_name z ≡ true) p.0 q.0, append_assoc word (b ∷ c) rest ∙ ap (λ (z : Bytes). word ++ z) back_is ∙ ap (λ (z : Bytes). z ++ x.0.1) (sym p.0) ∙ q.1);
 }

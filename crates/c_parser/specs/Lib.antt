@@ -1,3 +1,4 @@
 pub mod Readers
 pub mod SourceReading
+pub mod Reading
 pub mod Refusals

@@ -52,8 +52,8 @@ abbrev pub source_of : Bool → Bytes × ℕ → List sources.Action × Bytes �
 source_of includes head body =
     behind (ended (codes "return 0;")) body.1
     >>= (λ rest. if is_close rest
-      then Some (record { includes = includes; name = head.0; value = head.1; actions = body.0 })
-      else None)
+    then Some (record { includes = includes; name = head.0; value = head.1; actions = body.0 })
+    else None)
 
 unfoldable pub source : Bytes → Option Source
 source bytes = opening (included bytes).1 >>= (λ x. source_of (included bytes).0 x.0 (many (action_line x.0.0) x.1))

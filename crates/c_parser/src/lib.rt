@@ -1,6 +1,11 @@
 //! Reads programs from their texts.
 #![tactic(auto)]
 
+mod build;
+mod first_form;
 mod source;
+mod source_program;
 mod stop;
 mod text;
+
+pub use first_form::{one_program, parse_lines};

@@ -1,0 +1,93 @@
+//! Texts of the first form: a straight line of outputs, assignments and points around one number.
+
+ghost use Rattle.std.specs.Prelude.{◌≡◌, ◌≢◌, ℕ, List, count_by, map, MatchResult};
+ghost use Rattle.c_lang.specs.Lines.{Lines};
+ghost use Rattle.c_lang.specs.Sources.{is_point};
+ghost use Rattle.c_lang.specs.declared.program.Program.{Program};
+ghost use Rattle.c_lang.specs.declared.unit.Unit.{Unit};
+ghost use Rattle.c_lang.specs.declared.unit.Unit.TheVariants.{Merge};
+ghost use Rattle.c_parser.specs.Reading as spec;
+ghost use Rattle.c_parser.specs.SourceReading.{Gives, action_of};
+ghost use Rattle.c_parser.specs.Refusals.{IsRefusedForm};
+
+use crate::source::{Action, read_setter, read_source};
+use crate::source_program::{setter_program, source_program};
+use crate::stop::Stop;
+use c_lang::{Fail, Pos, Program, Refusal, Unit};
+use std::alloc::Global;
+
+fn points(actions: &[Action]) -> usize
+    ensures { result ≡ count_by is_point (map action_of actions.now) }
+{
+    let mut count = 0;
+    for action in actions {
+        if let Action::Asks(_) = action {
+            count += 1;
+        }
+    }
+    count
+}
+
+fn read_old(alloc: Global, bytes: &[u8]) -> Result<Program, Stop>
+    ensures { Gives (λ p. p) result (spec.program Unit.Old bytes.now) }
+{
+    let source = read_source(alloc, bytes)?;
+    if points(&source.actions) > 1 {
+        return Err(Stop::OtherForm);
+    }
+    let program = source_program(alloc, Unit::Old, &source)?;
+    Ok(program)
+}
+
+fn read_new(alloc: Global, bytes: &[u8]) -> Result<Program, Stop>
+    ensures { Gives (λ p. p) result (spec.program Unit.New bytes.now) }
+{
+    let source = read_source(alloc, bytes)?;
+    let program = source_program(alloc, Unit::New, &source)?;
+    Ok(program)
+}
+
+fn read_xform(alloc: Global, bytes: &[u8]) -> Result<Program, Stop>
+    ensures { Gives (λ p. p) result (spec.program Unit.Xform bytes.now) }
+{
+    let setter = read_setter(alloc, bytes)?;
+    let program = setter_program(alloc, &setter)?;
+    Ok(program)
+}
+
+fn read_program(alloc: Global, unit: Unit, bytes: &[u8]) -> Result<Program, Stop>
+    ensures { Gives (λ p. p) result (spec.program unit bytes.now) }
+{
+    match unit {
+        Unit::Old => read_old(alloc, bytes),
+        Unit::New => read_new(alloc, bytes),
+        Unit::Xform => read_xform(alloc, bytes),
+        Unit::Client | Unit::Merge | Unit::Hints | Unit::Certs => Err(Stop::OtherForm),
+    }
+}
+
+/// The program of a text of the first form, whose last line feed may be missing. Positions are the
+/// lines of the text. The unit is not that of merged texts.
+///
+/// Refusal 29 stands at line 1 of the unit, exactly where the text has no program. Units other than
+/// the two versions and the transformer have none. `NoMemory` comes where memory runs out, and for
+/// a text with more lines than a `u32` counts.
+pub fn parse_lines(alloc: Global, unit: Unit, bytes: &[u8]) -> Result<Program, Fail>
+    requires not_merged { unit ≢ Merge }
+    ensures answer { MatchResult result (λ program. Lines unit bytes.now program) (λ fail. IsRefusedForm fail unit bytes.now) }
+{
+    match read_program(alloc, unit, bytes) {
+        Ok(program) => Ok(program),
+        Err(Stop::NoMemory) => Err(Fail::NoMemory),
+        Err(Stop::OtherForm) => Err(Fail::Refused(Refusal {
+            number: 29,
+            pos: Pos { unit, line: 1 },
+            name: None,
+        })),
+    }
+}
+
+/// A text that is not a merged one has one program at most.
+pub fn one_program()
+    ensures { (unit : Unit) (bytes : List ℕ) (p q : Program) → unit ≢ Merge → Lines unit bytes p → Lines unit bytes q → p ≡ q }
+{}
