@@ -4,4 +4,6 @@ pub mod Many
 pub mod Tokens
 pub mod SourceLaws
 pub mod SourceIs
+pub mod LayoutLaws
+pub mod LayoutIs
 pub mod Programs
