@@ -6,4 +6,5 @@ pub mod SourceLaws
 pub mod SourceIs
 pub mod LayoutLaws
 pub mod LayoutIs
+pub mod LayoutWhole
 pub mod Programs
