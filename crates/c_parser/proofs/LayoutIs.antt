@@ -22,10 +22,10 @@ use Rattle.c_parser.proofs.LayoutLaws.{position_text, exact_position, exact_plac
 
 -- ---- a point
 
-abbrev Expanded : Type 0
+abbrev pub Expanded : Type 0
 Expanded = Pos × (ℕ × (Pos × (Pos × Pos)))
 
-expanded_text : Expanded → Bytes
+unfoldable pub expanded_text : Expanded → Bytes
 expanded_text v =
     position_text v.0
     ++ ((codes "int dsu_c = dsu_choice(" ++ (decimal v.1.0 ++ ended (codes ");")))
@@ -47,13 +47,13 @@ exact_expanded =
 
 -- ---- a statement of a version
 
-pub place : Piece → Pos
+unfoldable pub place : Piece → Pos
 place (shows p) = p
 place (sets p value) = p
 place (skips p) = p
 place (asks e k) = e.unless
 
-form_text : Bytes → Piece → Bytes
+unfoldable pub form_text : Bytes → Piece → Bytes
 form_text both (shows p) = ended (show_line both)
 form_text both (sets p value) = ended (set_line both value)
 form_text both (skips p) = ended (codes ";")
@@ -114,7 +114,7 @@ module _ (name : Bytes) where
       asked_again e.unless bytes (expanded_text v ++ rest) rest v (no_show both bytes (client_apart_from 105 _ refl)) (no_semicolon 105 _ refl) (no_set name _ 105 refl) begins
         (exact_expanded.complete v rest (ok.0.choice, (ok.1, (ok.0.test, (ok.0.flag, ok.0.call)))))
 
-  pub piece_text : Piece → Bytes
+  unfoldable pub piece_text : Piece → Bytes
   piece_text q = position_text (place q) ++ form_text (both_name name) q
 
   at_place : (q : Piece) → IsPiece q → IsPosition (place q)
@@ -206,7 +206,7 @@ module _ (name : Bytes) where
 
 -- ---- functions
 
-pub last_text : Pos → Bytes
+unfoldable pub last_text : Pos → Bytes
 last_text p = (position_text p ++ ended (codes "return 0;")) ++ ended (codes "}")
 
 exact_last : Exact last_of_version last_text IsPosition

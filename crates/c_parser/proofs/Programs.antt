@@ -4,14 +4,17 @@ use Rattle.std.specs.Prelude.{◌⊎◌, ⊤, count_by, nat_le, Result, Ok, Err,
 use Rattle.std.proofs.lemmas.Bool.{le-leb, leb-true}
 use Rattle.c_lang.specs.Names.{Bytes}
 use Rattle.c_lang.specs.Sources.{Source, Setter, is_point, source_lines, setter_lines, source_program, setter_program}
+use Rattle.c_lang.specs.Layout.{layout_program}
 use Rattle.c_lang.specs.Lines.{IsVersion, IsTransformer, Lines}
 use Rattle.c_lang.specs.declared.unit.Unit.{Unit}
 use Rattle.c_lang.specs.declared.unit.Unit.TheVariants as unit
 use Rattle.c_lang.specs.declared.program.Program.{Program}
 use Rattle.c_parser.specs.Readers.{◌>>=◌}
 use Rattle.c_parser.specs.SourceReading.{source, setter}
+use Rattle.c_parser.specs.LayoutReading.{read}
 use Rattle.c_parser.specs.Reading.{program}
 use Rattle.c_parser.proofs.Texts.{bind_some, some_is, chosen}
+use Rattle.c_parser.proofs.LayoutWhole.{layout_again, layout_is}
 use Rattle.c_parser.proofs.SourceIs.{front, HasClose, closes, closed, source_text, source_again, IsSourceRead, source_is, setter_front, setter_text, setter_again, setter_is}
 
 version_read : (u : Unit) (bytes : Bytes) (p : Program) (v : IsVersion u bytes p) → source bytes ≡ Some v.source
@@ -19,16 +22,16 @@ version_read u bytes p v =
     let h = closes (front v.source) bytes (source_lines v.source) (source_text v.source) v.text in
     subst (λ (z : Bytes). source z ≡ Some v.source) h.text (source_again v.source h.last v.parts h.close)
 
-pub reads : (u : Unit) (bytes : Bytes) (p : Program) → u ≢ unit.Merge → Lines u bytes p → program u bytes ≡ Some p
-reads unit.Old bytes p other v = let few = le-leb _ _ v.points in rw (version_read unit.Old bytes p v, few) (ap (λ (q : Program). Some q) v.is_program)
-reads unit.New bytes p other v = rw (version_read unit.New bytes p v) (ap (λ (q : Program). Some q) v.is_program)
-reads unit.Xform bytes p other v =
+pub reads : (u : Unit) (bytes : Bytes) (p : Program) → Lines u bytes p → program u bytes ≡ Some p
+reads unit.Old bytes p v = let few = le-leb _ _ v.points in rw (version_read unit.Old bytes p v, few) (ap (λ (q : Program). Some q) v.is_program)
+reads unit.New bytes p v = rw (version_read unit.New bytes p v) (ap (λ (q : Program). Some q) v.is_program)
+reads unit.Xform bytes p v =
     let again = setter_again v.setter bytes v.parts (closes (setter_front v.setter) bytes (setter_lines v.setter) (setter_text v.setter) v.text) in
     rw again.is_read (ap (λ (q : Program). Some q) (again.same ∙ v.is_program))
-reads unit.Client bytes p other v = absurd v
-reads unit.Merge bytes p other v = absurd (other refl)
-reads unit.Hints bytes p other v = absurd v
-reads unit.Certs bytes p other v = absurd v
+reads unit.Client bytes p v = absurd v
+reads unit.Merge bytes p v = rw (layout_again v.layout bytes v.parts v.text) (ap (λ (q : Program). Some q) v.is_program)
+reads unit.Hints bytes p v = absurd v
+reads unit.Certs bytes p v = absurd v
 
 pub is_program : (u : Unit) (bytes : Bytes) (p : Program) → program u bytes ≡ Some p → Lines u bytes p
 is_program unit.Old bytes p e =
@@ -64,9 +67,12 @@ is_program unit.Xform bytes p e =
       is_program = some_is (setter_program x.0) p x.2;
     }
 is_program unit.Client bytes p e = absurd cc
-is_program unit.Merge bytes p e = absurd cc
+is_program unit.Merge bytes p e =
+    let x = bind_some (read bytes) (λ l. Some (layout_program l)) p e in
+    let found = layout_is x.0 bytes x.1 in
+    record { layout = x.0; parts = found.0; text = found.1; is_program = some_is (layout_program x.0) p x.2 }
 is_program unit.Hints bytes p e = absurd cc
 is_program unit.Certs bytes p e = absurd cc
 
-pub one : (u : Unit) (bytes : Bytes) (p q : Program) → u ≢ unit.Merge → Lines u bytes p → Lines u bytes q → p ≡ q
-one u bytes p q other v w = some_is p q (sym (reads u bytes p other v) ∙ reads u bytes q other w)
+pub one : (u : Unit) (bytes : Bytes) (p q : Program) → Lines u bytes p → Lines u bytes q → p ≡ q
+one u bytes p q v w = some_is p q (sym (reads u bytes p v) ∙ reads u bytes q w)

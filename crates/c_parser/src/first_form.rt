@@ -56,6 +56,7 @@ fn read_xform(alloc: Global, bytes: &[u8]) -> Result<Program, Stop>
 }
 
 fn read_program(alloc: Global, unit: Unit, bytes: &[u8]) -> Result<Program, Stop>
+    requires { unit ≢ Merge }
     ensures { Gives (λ p. p) result (spec.program unit bytes.now) }
 {
     match unit {
@@ -87,7 +88,7 @@ pub fn parse_lines(alloc: Global, unit: Unit, bytes: &[u8]) -> Result<Program, F
     }
 }
 
-/// A text that is not a merged one has one program at most.
+/// A text has one program at most.
 pub fn one_program()
-    ensures { (unit : Unit) (bytes : List ℕ) (p q : Program) → unit ≢ Merge → Lines unit bytes p → Lines unit bytes q → p ≡ q }
+    ensures { (unit : Unit) (bytes : List ℕ) (p q : Program) → Lines unit bytes p → Lines unit bytes q → p ≡ q }
 {}
