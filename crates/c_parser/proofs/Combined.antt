@@ -1,6 +1,6 @@
 -- A reader is exact where it gives what stands at the front, and gives nothing else. Readers that
 -- are put together from exact ones are exact.
-use Rattle.std.proofs.Common.{◌≡◌, ℕ, Bool, true, false, cond, List, [], ◌∷◌, ◌++◌, Option, Some, None, refl, sym, ap, subst, ◌∙◌, append_assoc, inl, inr}
+use Rattle.std.proofs.Common.{◌≡◌, Bool, true, cond, ◌++◌, Option, Some, None, refl, sym, ap, subst, ◌∙◌, append_assoc, inl, inr}
 use Rattle.c_lang.specs.Names.{Bytes}
 use Rattle.c_parser.specs.Readers.{Reader, ◌>>=◌, behind, after, before, pair, mapped, tested}
 use Rattle.c_parser.proofs.Texts.{bind_some, some_is, chosen, behind_same, behind_is, behind_both}

@@ -1,20 +1,19 @@
 -- The groups of lines of a merged text, and the whole.
-use Rattle.std.proofs.Common.{◌≡◌, ℕ, zero, suc, ◌+◌, ◌<◌, ◌≤◌, Bool, true, false, cond, eqb, List, [], ◌∷◌, ◌++◌, map, length, Option, Some, None, refl, sym, ap, subst, ◌∙◌, append_assoc, inl, inr, arith}
-use Rattle.std.specs.Prelude.{◌⊎◌, ⊤, All, codes}
+use Rattle.std.proofs.Common.{◌≡◌, ℕ, ◌≤◌, false, eqb, [], ◌∷◌, ◌++◌, length, Some, None, refl, sym, ap, subst, ◌∙◌, append_assoc, inl, inr, arith}
+use Rattle.std.specs.Prelude.{⊤, codes}
 use Rattle.std.specs.List.{flat_map}
 use Rattle.std.specs.Fmt.{decimal}
-use Rattle.std.proofs.lemmas.List.{length-append, append-nil}
-use Rattle.std.proofs.lemmas.Grind.{flat_map-append}
+use Rattle.std.proofs.lemmas.List.{length-append}
 use Rattle.c_lang.specs.Names.{Bytes}
-use Rattle.c_lang.specs.Sources.{FitsNumber, is_shared_name, set_line, show_line}
+use Rattle.c_lang.specs.Sources.{FitsNumber, set_line, show_line}
 use Rattle.c_lang.specs.Layout as layout
 use Rattle.c_lang.specs.Layout.{Piece, shows, sets, skips, asks, both_name, IsPosition, IsPiece, ArePositionsOfExpansion}
 use Rattle.c_lang.specs.declared.unit.Pos.{Pos}
-use Rattle.c_parser.specs.Readers.{Reader, ◌>>=◌, or_else, after, before, pair, behind, number, position, placed, ended, many, many_before, mapped}
+use Rattle.c_parser.specs.Readers.{◌>>=◌, after, behind, position, ended, many_before}
 use Rattle.c_parser.specs.SourceReading.{show, setting}
 use Rattle.c_parser.specs.LayoutReading.{expansion_of, expansion_parts, form, piece, last_of_version, main_of, version, placed_setting, closing, transform_of, transform}
-use Rattle.c_parser.proofs.Texts.{bind_some, some_is, chosen, behind_same, behind_is}
-use Rattle.c_parser.proofs.Combined.{Exact, ExactText, exact_behind, exact_steps, exact_after, exact_before, exact_pair, exact_mapped, exact_as, some_pair}
+use Rattle.c_parser.proofs.Texts.{bind_some, behind_same, behind_is}
+use Rattle.c_parser.proofs.Combined.{Exact, exact_behind, exact_after, exact_before, exact_pair, exact_mapped, some_pair}
 use Rattle.c_parser.proofs.Many.{exact_many}
 use Rattle.c_parser.proofs.Tokens.{exact_number}
 use Rattle.c_parser.proofs.SourceLaws.{exact_show, exact_setting, no_show, client_apart_from, or_some}
@@ -112,7 +111,7 @@ module _ (name : Bytes) where
       let bytes = (ended (codes "if (dsu_now == 0) {") ++ expanded_text v) ++ rest in
       let begins : behind (ended (codes "if (dsu_now == 0) {")) bytes ≡ Some (expanded_text v ++ rest) = behind_same (ended (codes "if (dsu_now == 0) {")) (expanded_text v ++ rest) in
       asked_again e.unless bytes (expanded_text v ++ rest) rest v (no_show both bytes (client_apart_from 105 _ refl)) (no_semicolon 105 _ refl) (no_set name _ 105 refl) begins
-        (exact_expanded.complete v rest (ok.0.choice, (ok.1, (ok.0.test, (ok.0.flag, ok.0.call)))))
+      (exact_expanded.complete v rest (ok.0.choice, (ok.1, (ok.0.test, (ok.0.flag, ok.0.call)))))
 
   unfoldable pub piece_text : Piece → Bytes
   piece_text q = position_text (place q) ++ form_text (both_name name) q
@@ -144,7 +143,7 @@ module _ (name : Bytes) where
       let both = both_name name in
       let more = ended (codes "return 0;") ++ rest in
       no_piece (position_text p ++ more) more p (exact_position.complete p more ok)
-        (not_again p more (no_show both more (client_apart_from 114 _ refl)) (no_semicolon 114 _ refl) (no_set name _ 114 refl) (no_if _))
+      (not_again p more (no_show both more (client_apart_from 114 _ refl)) (no_semicolon 114 _ refl) (no_set name _ 114 refl) (no_if _))
 
   -- what was read behind a position
   record IsForm (p : Pos) (bytes rest : Bytes) (q : Piece) : Type 0 where
@@ -167,24 +166,24 @@ module _ (name : Bytes) where
             let s = some_pair (shows p) q x.0 rest x.2 in
             form_along p bytes rest x.0 (shows p) q s.0 s.1 (record { parts = λ ok. ok; placed_so = refl; text = behind_is (ended (show_line both)) bytes x.0 (sym ((exact_show both).same bytes) ∙ x.1) })
         | inr h ↦ elim (or_some (behind (ended (codes ";")) bytes >>= (λ rest. Some (skips p, rest))) _ (q, rest) h.1) [
-            | inl g ↦
-                let x = bind_some (behind (ended (codes ";")) bytes) (λ rest. Some (skips p, rest)) (q, rest) g in
-                let s = some_pair (skips p) q x.0 rest x.2 in
-                form_along p bytes rest x.0 (skips p) q s.0 s.1 (record { parts = λ ok. ok; placed_so = refl; text = behind_is (ended (codes ";")) bytes x.0 x.1 })
-            | inr g ↦ elim (or_some (setting both bytes >>= (λ x. Some (sets p x.0, x.1))) _ (q, rest) g.1) [
-                | inl i ↦
-                    let x = bind_some (setting both bytes) (λ x. Some (sets p x.0, x.1)) (q, rest) i in
-                    let s = some_pair (sets p x.0.0) q x.0.1 rest x.2 in
-                    let r = (exact_setting both).sound bytes x.0.1 x.0.0 x.1 in
-                    form_along p bytes rest x.0.1 (sets p x.0.0) q s.0 s.1 (record { parts = λ ok. (ok, r.0); placed_so = refl; text = r.1 })
-                | inr i ↦
-                    let x = bind_some (after (behind (ended (codes "if (dsu_now == 0) {"))) expansion_parts bytes) (λ x. Some (expansion_of p x.0, x.1)) (q, rest) i.1 in
-                    let s = some_pair (expansion_of p x.0.0) q x.0.1 rest x.2 in
-                    let r = (exact_after _ _ _ exact_expanded (behind (ended (codes "if (dsu_now == 0) {"))) (ended (codes "if (dsu_now == 0) {")) (exact_behind (ended (codes "if (dsu_now == 0) {")))).sound bytes x.0.1 x.0.0 x.1 in
-                    form_along p bytes rest x.0.1 (expansion_of p x.0.0) q s.0 s.1
-                      (record { parts = λ ok. (record { unless = ok; choice = r.0.0; test = r.0.1.1.0; flag = r.0.1.1.1.0; call = r.0.1.1.1.1 }, r.0.1.0); placed_so = refl; text = r.1 })
-              ]
+          | inl g ↦
+              let x = bind_some (behind (ended (codes ";")) bytes) (λ rest. Some (skips p, rest)) (q, rest) g in
+              let s = some_pair (skips p) q x.0 rest x.2 in
+              form_along p bytes rest x.0 (skips p) q s.0 s.1 (record { parts = λ ok. ok; placed_so = refl; text = behind_is (ended (codes ";")) bytes x.0 x.1 })
+          | inr g ↦ elim (or_some (setting both bytes >>= (λ x. Some (sets p x.0, x.1))) _ (q, rest) g.1) [
+            | inl i ↦
+                let x = bind_some (setting both bytes) (λ x. Some (sets p x.0, x.1)) (q, rest) i in
+                let s = some_pair (sets p x.0.0) q x.0.1 rest x.2 in
+                let r = (exact_setting both).sound bytes x.0.1 x.0.0 x.1 in
+                form_along p bytes rest x.0.1 (sets p x.0.0) q s.0 s.1 (record { parts = λ ok. (ok, r.0); placed_so = refl; text = r.1 })
+            | inr i ↦
+                let x = bind_some (after (behind (ended (codes "if (dsu_now == 0) {"))) expansion_parts bytes) (λ x. Some (expansion_of p x.0, x.1)) (q, rest) i.1 in
+                let s = some_pair (expansion_of p x.0.0) q x.0.1 rest x.2 in
+                let r = (exact_after _ _ _ exact_expanded (behind (ended (codes "if (dsu_now == 0) {"))) (ended (codes "if (dsu_now == 0) {")) (exact_behind (ended (codes "if (dsu_now == 0) {")))).sound bytes x.0.1 x.0.0 x.1 in
+                form_along p bytes rest x.0.1 (expansion_of p x.0.0) q s.0 s.1
+                (record { parts = λ ok. (record { unless = ok; choice = r.0.0; test = r.0.1.1.0; flag = r.0.1.1.1.0; call = r.0.1.1.1.1 }, r.0.1.0); placed_so = refl; text = r.1 })
           ]
+        ]
       ]
 
   piece_is : (bytes rest : Bytes) (q : Piece) → piece (both_name name) bytes ≡ Some (q, rest) → IsPiece q × (piece_text q ++ rest ≡ bytes)
@@ -193,9 +192,10 @@ module _ (name : Bytes) where
       let both = both_name name in
       let x = bind_some (position bytes) (λ x. form both x.0 x.1) (q, rest) e in
       let p = exact_position.sound bytes x.0.1 x.0.0 x.1 in
-      let f = form_is x.0.0 x.0.1 rest q x.2 in
-      (f.parts p.0,
-       append_assoc (position_text (place q)) (form_text both q) rest ∙ ap (λ (z : Bytes). position_text (place q) ++ z) f.text ∙ ap (λ (r : Pos). position_text r ++ x.0.1) f.placed_so ∙ p.1)
+      let f = form_is x.0.0 x.0.1 rest q x.2 in (
+        f.parts p.0,
+        append_assoc (position_text (place q)) (form_text both q) rest ∙ ap (λ (z : Bytes). position_text (place q) ++ z) f.text ∙ ap (λ (r : Pos). position_text r ++ x.0.1) f.placed_so ∙ p.1,
+      )
 
   pub exact_piece : Exact (piece (both_name name)) piece_text IsPiece
   exact_piece = record { complete = λ q rest ok. piece_again q rest ok; sound = λ bytes rest q e. piece_is bytes rest q e }
@@ -227,9 +227,9 @@ unfolding version
 exact_version head name =
     exact_where _ _ (version_text head name) _ layout.IsMain
     (exact_mapped _ _ _
-      (exact_pair _ _ _ (exact_placed head) (λ p. many_before (piece (both_name name)) last_of_version) _ _
-        (λ p. exact_many (piece (both_name name)) (piece_text name) IsPiece (exact_piece name) last_of_version last_text IsPosition exact_last (long_piece name) (last_stops name)))
-      main_of (λ m. (m.head, (m.pieces, m.last))) (λ m. refl) (λ v. refl))
+    (exact_pair _ _ _ (exact_placed head) (λ p. many_before (piece (both_name name)) last_of_version) _ _
+    (λ p. exact_many (piece (both_name name)) (piece_text name) IsPiece (exact_piece name) last_of_version last_text IsPosition exact_last (long_piece name) (last_stops name)))
+    main_of (λ m. (m.head, (m.pieces, m.last))) (λ m. refl) (λ v. refl))
     (λ m. refl) (λ m h. record { head = h.0; pieces = h.1.0; last = h.1.1 }) (λ m h. (h.head, (h.pieces, h.last)))
 
 exact_placed_setting : (name : Bytes) → Exact (placed_setting (both_name name)) (λ s. position_text s.0 ++ ended (set_line (both_name name) s.1)) (λ s. IsPosition s.0 × FitsNumber s.1)
@@ -241,9 +241,9 @@ unfolding closing
 exact_closing = record {
   complete = λ u rest ok. rw (behind_same (ended (codes "}")) rest) refl;
   sound = λ bytes rest u e.
-    let x = bind_some (behind (ended (codes "}")) bytes) (λ rest. Some (tt, rest)) (u, rest) e in
-    let p = some_pair tt u x.0 rest x.2 in
-    (tt, ap (λ (z : Bytes). ended (codes "}") ++ z) (sym p.1) ∙ behind_is (ended (codes "}")) bytes x.0 x.1);
+      let x = bind_some (behind (ended (codes "}")) bytes) (λ rest. Some (tt, rest)) (u, rest) e in
+      let p = some_pair tt u x.0 rest x.2 in
+      (tt, ap (λ (z : Bytes). ended (codes "}") ++ z) (sym p.1) ∙ behind_is (ended (codes "}")) bytes x.0 x.1);
 }
 
 long_set : (name : Bytes) (s : Pos × ℕ) → 1 ≤ length (position_text s.0 ++ ended (set_line (both_name name) s.1))
@@ -271,8 +271,8 @@ unfolding transform
 exact_transform name =
     exact_where _ _ (transform_text name) _ layout.IsTransform
     (exact_mapped _ _ _
-      (exact_pair _ _ _ (exact_placed (ended (codes "void dsu_xform_dsu_transform(void) {"))) (λ p. many_before (placed_setting (both_name name)) closing) _ _
-        (λ p. exact_many (placed_setting (both_name name)) _ _ (exact_placed_setting name) closing (λ u. ended (codes "}")) (λ u. ⊤) exact_closing (long_set name)
-          (λ u rest ok. no_placed_setting (both_name name) (125 ∷ 10 ∷ rest) (no_position (125 ∷ 10 ∷ rest) (no_line (10 ∷ rest))))))
-      transform_of (λ t. (t.head, (t.sets, tt))) (λ t. refl) (λ v. refl))
+    (exact_pair _ _ _ (exact_placed (ended (codes "void dsu_xform_dsu_transform(void) {"))) (λ p. many_before (placed_setting (both_name name)) closing) _ _
+    (λ p. exact_many (placed_setting (both_name name)) _ _ (exact_placed_setting name) closing (λ u. ended (codes "}")) (λ u. ⊤) exact_closing (long_set name)
+    (λ u rest ok. no_placed_setting (both_name name) (125 ∷ 10 ∷ rest) (no_position (125 ∷ 10 ∷ rest) (no_line (10 ∷ rest))))))
+    transform_of (λ t. (t.head, (t.sets, tt))) (λ t. refl) (λ v. refl))
     (λ t. refl) (λ t h. record { head = h.0; sets = h.1.0 }) (λ t h. (h.head, (h.sets, tt)))

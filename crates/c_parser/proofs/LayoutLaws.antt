@@ -1,21 +1,17 @@
 -- Reading the layout of a merged text gives its parts, and nothing else.
-use Rattle.std.proofs.Common.{◌≡◌, ℕ, zero, suc, ◌+◌, ◌<◌, ◌≤◌, Bool, true, false, ◌&&◌, cond, eqb, List, [], ◌∷◌, ◌++◌, map, length, Option, Some, None, refl, sym, ap, subst, ◌∙◌, append_assoc, inl, inr, arith}
-use Rattle.std.specs.Prelude.{◌⊎◌, ⊤, All, codes, nat_le}
-use Rattle.std.specs.List.{flat_map}
-use Rattle.std.specs.Fmt.{decimal}
-use Rattle.std.proofs.lemmas.List.{length-append}
+use Rattle.std.proofs.Common.{◌≡◌, ℕ, Bool, true, false, cond, eqb, [], ◌∷◌, ◌++◌, Option, Some, refl, sym, ap, subst, ◌∙◌, append_assoc}
+use Rattle.std.specs.Prelude.{codes, nat_le}
 use Rattle.std.proofs.lemmas.Bool.{le-leb, leb-true}
 use Rattle.c_lang.specs.Names.{Bytes}
 use Rattle.c_lang.specs.Units.{word}
-use Rattle.c_lang.specs.Sources.{FitsNumber, is_shared_name, set_line, show_line}
-use Rattle.c_lang.specs.Layout as layout
+use Rattle.c_lang.specs.Sources.{FitsNumber}
 use Rattle.c_lang.specs.Layout.{HasPrograms, IsPosition, position_line}
 use Rattle.c_lang.specs.declared.unit.Unit.{Unit}
 use Rattle.c_lang.specs.declared.unit.Unit.TheVariants as unit
 use Rattle.c_lang.specs.declared.unit.Pos.{Pos}
 use Rattle.c_parser.specs.Readers.{Reader, ◌>>=◌, unit_by, unit_word, pos_of, position, placed, behind, ended}
-use Rattle.c_parser.proofs.Texts.{bind_some, some_is, chosen, behind_same, behind_is}
-use Rattle.c_parser.proofs.Combined.{Exact, ExactText, exact_behind, exact_steps, exact_after, exact_before, exact_pair, exact_mapped, exact_tested, exact_as, some_pair}
+use Rattle.c_parser.proofs.Texts.{bind_some, some_is, behind_is}
+use Rattle.c_parser.proofs.Combined.{Exact, exact_behind, exact_after, exact_before, exact_pair, exact_mapped, exact_tested, exact_as, some_pair}
 use Rattle.c_parser.proofs.Tokens.{exact_number}
 use Rattle.std.specs.Prelude.{slice_index}
 
@@ -48,11 +44,12 @@ unfolding unit_word
 exact_unit = record {
   complete = λ u rest h. unit_again u rest h;
   sound = λ bytes rest u e.
-    let x = bind_some (unit_by (slice_index bytes 0)) (λ u. behind (word u) bytes >>= (λ rest. Some (u, rest))) (u, rest) e in
-    let y = bind_some (behind (word x.0) bytes) (λ rest. Some (x.0, rest)) (u, rest) x.2 in
-    let p = some_pair x.0 u y.0 rest y.2 in
-    (subst HasPrograms p.0 (unit_is_named (slice_index bytes 0) x.0 x.1),
-     ap (λ (z : Bytes). word u ++ z) (sym p.1) ∙ ap (λ (v : Unit). word v ++ y.0) (sym p.0) ∙ behind_is (word x.0) bytes y.0 y.1);
+      let x = bind_some (unit_by (slice_index bytes 0)) (λ u. behind (word u) bytes >>= (λ rest. Some (u, rest))) (u, rest) e in
+      let y = bind_some (behind (word x.0) bytes) (λ rest. Some (x.0, rest)) (u, rest) x.2 in
+      let p = some_pair x.0 u y.0 rest y.2 in (
+        subst HasPrograms p.0 (unit_is_named (slice_index bytes 0) x.0 x.1),
+        ap (λ (z : Bytes). word u ++ z) (sym p.1) ∙ ap (λ (v : Unit). word v ++ y.0) (sym p.0) ∙ behind_is (word x.0) bytes y.0 y.1,
+      );
 }
 
 abbrev pub position_text : Pos → Bytes
@@ -80,13 +77,13 @@ unfolding position
 exact_position =
     exact_where _ _ position_text _ IsPosition
     (exact_tested _ _ _
-      (exact_mapped _ _ _
-        (exact_after _ _ _
-          (exact_pair _ _ _ (exact_number (behind (codes " \"")) 32 (34 ∷ []) refl (exact_behind (codes " \""))) _ (λ line u. word u ++ ended (codes "\"")) (λ line. HasPrograms)
-            (λ line. exact_before _ _ _ exact_unit (behind (ended (codes "\""))) (ended (codes "\"")) (exact_behind (ended (codes "\"")))))
-          (behind (codes "#line ")) (codes "#line ") (exact_behind (codes "#line ")))
-        pos_of (λ p. (p.line, p.unit)) (λ p. refl) (λ v. refl))
-      (λ p. nat_le 1 p.line))
+    (exact_mapped _ _ _
+    (exact_after _ _ _
+    (exact_pair _ _ _ (exact_number (behind (codes " \"")) 32 (34 ∷ []) refl (exact_behind (codes " \""))) _ (λ line u. word u ++ ended (codes "\"")) (λ line. HasPrograms)
+    (λ line. exact_before _ _ _ exact_unit (behind (ended (codes "\""))) (ended (codes "\"")) (exact_behind (ended (codes "\"")))))
+    (behind (codes "#line ")) (codes "#line ") (exact_behind (codes "#line ")))
+    pos_of (λ p. (p.line, p.unit)) (λ p. refl) (λ v. refl))
+    (λ p. nat_le 1 p.line))
     (λ p. simp append_assoc) fits_position fits_parts
 
 pub exact_placed : (text : Bytes) → Exact (placed text) (λ p. position_text p ++ text) IsPosition

@@ -1,12 +1,12 @@
 -- Laws of reading one thing after another.
-use Rattle.std.proofs.Common.{◌≡◌, ℕ, zero, suc, ◌+◌, ◌<◌, ◌≤◌, List, [], ◌∷◌, ◌++◌, map, length, Option, Some, None, refl, sym, ap, subst, ◌∙◌, append_assoc, arith}
+use Rattle.std.proofs.Common.{◌≡◌, ℕ, zero, suc, ◌<◌, ◌≤◌, List, [], ◌∷◌, ◌++◌, map, length, Option, Some, None, refl, sym, ap, subst, ◌∙◌, append_assoc, arith}
 use Rattle.std.specs.Prelude.{All}
 use Rattle.std.specs.List.{flat_map}
 use Rattle.std.proofs.lemmas.List.{append-nil, length-append, map-append}
 use Rattle.std.proofs.lemmas.List.Elements.{All-nil, All-cons}
 use Rattle.c_lang.specs.Names.{Bytes}
-use Rattle.c_parser.specs.Readers.{Reader, ◌>>=◌, turn, many_by, many, many_before}
-use Rattle.c_parser.proofs.Texts.{bind_some, some_is}
+use Rattle.c_parser.specs.Readers.{Reader, turn, many_by, many, many_before}
+use Rattle.c_parser.proofs.Texts.{bind_some}
 use Rattle.c_parser.proofs.Combined.{Exact, some_pair}
 
 abbrev pub joined : {A : Type 0} → List A → List A × Bytes → List A × Bytes

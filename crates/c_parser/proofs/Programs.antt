@@ -1,21 +1,20 @@
 -- Reading gives the program whose lines these are, and there is no other.
-use Rattle.std.proofs.Common.{◌≡◌, ◌≢◌, ℕ, ◌≤◌, Bool, true, false, cond, List, Option, Some, None, refl, sym, ap, subst, ◌∙◌, inl, inr, codes}
-use Rattle.std.specs.Prelude.{◌⊎◌, ⊤, count_by, nat_le, Result, Ok, Err, MatchResult}
+use Rattle.std.proofs.Common.{◌≡◌, cond, Some, None, sym, ap, subst, ◌∙◌, inl, inr}
+use Rattle.std.specs.Prelude.{count_by, nat_le}
 use Rattle.std.proofs.lemmas.Bool.{le-leb, leb-true}
 use Rattle.c_lang.specs.Names.{Bytes}
-use Rattle.c_lang.specs.Sources.{Source, Setter, is_point, source_lines, setter_lines, source_program, setter_program}
+use Rattle.c_lang.specs.Sources.{is_point, source_lines, setter_lines, source_program, setter_program}
 use Rattle.c_lang.specs.Layout.{layout_program}
-use Rattle.c_lang.specs.Lines.{IsVersion, IsTransformer, Lines}
+use Rattle.c_lang.specs.Lines.{IsVersion, Lines}
 use Rattle.c_lang.specs.declared.unit.Unit.{Unit}
 use Rattle.c_lang.specs.declared.unit.Unit.TheVariants as unit
 use Rattle.c_lang.specs.declared.program.Program.{Program}
-use Rattle.c_parser.specs.Readers.{◌>>=◌}
 use Rattle.c_parser.specs.SourceReading.{source, setter}
 use Rattle.c_parser.specs.LayoutReading.{read}
 use Rattle.c_parser.specs.Reading.{program}
 use Rattle.c_parser.proofs.Texts.{bind_some, some_is, chosen}
 use Rattle.c_parser.proofs.LayoutWhole.{layout_again, layout_is}
-use Rattle.c_parser.proofs.SourceIs.{front, HasClose, closes, closed, source_text, source_again, IsSourceRead, source_is, setter_front, setter_text, setter_again, setter_is}
+use Rattle.c_parser.proofs.SourceIs.{front, closes, closed, source_text, source_again, source_is, setter_front, setter_text, setter_again, setter_is}
 
 version_read : (u : Unit) (bytes : Bytes) (p : Program) (v : IsVersion u bytes p) → source bytes ≡ Some v.source
 version_read u bytes p v =

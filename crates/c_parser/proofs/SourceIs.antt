@@ -1,6 +1,6 @@
 -- A whole source, and a whole transformer: what is read has these lines, and these lines are read.
-use Rattle.std.proofs.Common.{◌≡◌, ℕ, zero, suc, ◌+◌, ◌<◌, ◌≤◌, Bool, true, false, ◌||◌, cond, List, [], ◌∷◌, ◌++◌, map, length, Option, Some, None, refl, sym, ap, subst, ◌∙◌, append_assoc, inl, inr, arith}
-use Rattle.std.specs.Prelude.{◌⊎◌, ⊤, All, codes, bytes_eq}
+use Rattle.std.proofs.Common.{◌≡◌, ℕ, Bool, true, false, cond, List, [], ◌∷◌, ◌++◌, map, Option, Some, None, refl, sym, ap, subst, ◌∙◌, append_assoc, inl, inr, arith}
+use Rattle.std.specs.Prelude.{◌⊎◌, All, codes, bytes_eq}
 use Rattle.std.specs.List.{flat_map}
 use Rattle.std.specs.Fmt.{decimal}
 use Rattle.std.proofs.lemmas.List.{append_cancel_right}
@@ -12,13 +12,13 @@ use Rattle.c_lang.specs.Names.{Bytes}
 use Rattle.c_lang.specs.Sources.{FitsNumber, FitsAction, is_shared_name, Action, Source, Setter, IsSource, IsSetter, set_line, global_line, source_lines, setter_lines, setter_program}
 use Rattle.c_lang.specs.Sources as sources
 use Rattle.c_lang.specs.Lines.{text_of, IsSourceText}
-use Rattle.c_parser.specs.Readers.{Reader, ◌>>=◌, before, behind, number, name, ended, is_in, many}
-use Rattle.c_parser.specs.SourceReading.{show, setting, asking, action_line, declared, opening, included_by, included, is_close, source_of, source, setter_of, settings_by, settings, setter}
+use Rattle.c_parser.specs.Readers.{behind, name, ended, is_in, many}
+use Rattle.c_parser.specs.SourceReading.{setting, action_line, declared, opening, included_by, included, is_close, source_of, source, settings_by, settings, setter}
 use Rattle.c_parser.specs.declared.text.Class.TheVariants as class
 use Rattle.c_parser.proofs.Texts.{bind_some, some_is, chosen, behind_same, behind_is}
-use Rattle.c_parser.proofs.Combined.{Exact, exact_behind, exact_after, exact_before, exact_pair, exact_as, some_pair}
+use Rattle.c_parser.proofs.Combined.{Exact, exact_behind, exact_after, exact_before, exact_pair, exact_as}
 use Rattle.c_parser.proofs.Many.{reads_many, read_many, head_fits, tail_fits}
-use Rattle.c_parser.proofs.Tokens.{AllOf, IsEnd, all_of_test, exact_number, exact_name, name_again, name_is}
+use Rattle.c_parser.proofs.Tokens.{all_of_test, exact_number, exact_name, name_again, name_is}
 use Rattle.c_parser.proofs.SourceLaws.{action_text, exact_setting, exact_action, long_setting, long_action, no_show, no_asking, client_apart_from, update_apart_from, setting_apart, set_rest}
 
 abbrev pub FitsGlobal : Bytes × ℕ → Type 0

@@ -1,20 +1,19 @@
 -- Reading a source gives its lines' parts, and nothing else.
-use Rattle.std.proofs.Common.{◌≡◌, ℕ, zero, suc, ◌+◌, ◌<◌, ◌≤◌, Bool, true, false, not, ◌&&◌, ◌||◌, cond, eqb, List, [], ◌∷◌, ◌++◌, map, length, Option, Some, None, refl, sym, ap, subst, ◌∙◌, append_assoc, inl, inr, arith}
-use Rattle.std.specs.Prelude.{◌⊎◌, ⊤, All, codes}
-use Rattle.std.specs.List.{flat_map}
+use Rattle.std.proofs.Common.{◌≡◌, ℕ, ◌<◌, ◌≤◌, Bool, true, false, cond, eqb, [], ◌∷◌, ◌++◌, length, Option, Some, None, refl, sym, ap, subst, ◌∙◌, append_assoc, inl, inr, arith}
+use Rattle.std.specs.Prelude.{◌⊎◌, codes}
 use Rattle.std.specs.Fmt.{decimal}
 use Rattle.std.proofs.lemmas.List.{length-append}
 use Rattle.std.proofs.lemmas.Bool.{eqb-true}
-use Rattle.c_lang.specs.Names.{Bytes, is_digit, is_letter}
+use Rattle.c_lang.specs.Names.{Bytes}
 use Rattle.c_lang.specs.Sources.{FitsNumber, FitsAction, is_shared_name, Action, shows, asks, sets, set_line, show_line}
 use Rattle.c_lang.specs.Sources as sources
-use Rattle.c_parser.specs.Readers.{Reader, ◌>>=◌, or_else, before, behind, number, ended, is_in, many}
-use Rattle.c_parser.specs.SourceReading.{show, setting, asking, action_line, declared, opening}
+use Rattle.c_parser.specs.Readers.{◌>>=◌, or_else, behind, ended, is_in}
+use Rattle.c_parser.specs.SourceReading.{show, setting, asking, action_line}
 use Rattle.c_parser.specs.declared.text.Class.TheVariants as class
-use Rattle.c_parser.proofs.Texts.{bind_some, some_is, chosen, behind_same, behind_is}
-use Rattle.c_parser.proofs.Combined.{Exact, ExactText, exact_behind, exact_steps, exact_after, exact_before, exact_pair, exact_as, some_pair}
-use Rattle.c_parser.proofs.Many.{shorter, reads_many, read_many}
-use Rattle.c_parser.proofs.Tokens.{AllOf, IsEnd, all_of_test, exact_number, exact_name, shared_bytes}
+use Rattle.c_parser.proofs.Texts.{bind_some, behind_same, behind_is}
+use Rattle.c_parser.proofs.Combined.{Exact, ExactText, exact_behind, exact_steps, exact_after, exact_as, some_pair}
+use Rattle.c_parser.proofs.Many.{shorter}
+use Rattle.c_parser.proofs.Tokens.{AllOf, IsEnd, all_of_test, exact_number, shared_bytes}
 
 -- ---- the lines
 

@@ -1,20 +1,19 @@
 -- Laws of numbers, names and positions at the front of a text.
-use Rattle.std.proofs.Common.{◌≡◌, ℕ, zero, suc, ◌+◌, ◌-◌, ◌*◌, ◌<◌, ◌≤◌, Bool, true, false, not, ◌&&◌, ◌||◌, cond, eqb, ltb, List, [], ◌∷◌, ◌++◌, length, take, drop, get_or, Option, Some, None, refl, sym, ap, subst, ◌∙◌, append_assoc, inl, inr, arith, rules, ◌^◌}
-use Rattle.std.specs.Prelude.{◌⊎◌, ⊤, nat_le, nat_lt, nat_eq, bytes_eq, slice_index}
-use Rattle.std.specs.List.{prefix_len, list_all, list_any, starts_with}
+use Rattle.std.proofs.Common.{◌≡◌, ℕ, zero, suc, ◌+◌, ◌-◌, ◌*◌, ◌<◌, ◌≤◌, Bool, true, false, not, ◌&&◌, ◌||◌, cond, [], ◌∷◌, ◌++◌, length, take, drop, Option, Some, None, refl, sym, ap, subst, ◌∙◌, append_assoc, inl, inr, arith, rules, ◌^◌}
+use Rattle.std.specs.Prelude.{⊤, nat_le, nat_lt, nat_eq, slice_index}
+use Rattle.std.specs.List.{prefix_len, list_all}
 use Rattle.std.specs.Fmt.{decimal}
 use Rattle.std.proofs.lemmas.Fmt.{digits_decimal, digits_value-decimal, first_decimal, decimal_digit, decimal_nonempty, decimal-digits_value}
 use Rattle.std.proofs.lemmas.Str.Parse.{IsNumeralModel, numerals_by_fold}
-use Rattle.std.proofs.lemmas.List.{take-append-drop, length-append}
+use Rattle.std.proofs.lemmas.List.{take-append-drop}
 use Rattle.std.proofs.Math.Seq.{take-append_seam, drop-append_seam}
-use Rattle.std.proofs.lemmas.Bool.{le-leb, leb-true, ltb-true, lt-ltb, eqb-true}
+use Rattle.std.proofs.lemmas.Bool.{le-leb, leb-true}
 use Rattle.std.proofs.lemmas.Bool.Decides.{nat_tests}
 use Rattle.c_lang.specs.Names.{Bytes, is_digit, is_letter, is_word}
 use Rattle.c_lang.specs.Sources.{FitsNumber, is_shared_name}
-use Rattle.c_parser.specs.Readers.{Reader, ◌>>=◌, is_in, value_from, is_numeral, value_of, number, name, before, behind}
-use Rattle.c_parser.specs.declared.text.Class.{Class}
+use Rattle.c_parser.specs.Readers.{◌>>=◌, is_in, value_from, is_numeral, value_of, number, name, before}
 use Rattle.c_parser.specs.declared.text.Class.TheVariants as class
-use Rattle.c_parser.proofs.Texts.{bind_some, some_is, chosen, behind_same, behind_is}
+use Rattle.c_parser.proofs.Texts.{bind_some, chosen, behind_same, behind_is}
 use Rattle.c_parser.proofs.Combined.{Exact, ExactText, some_pair}
 
 abbrev pub AllOf : (ℕ → Bool) → Bytes → Type 0

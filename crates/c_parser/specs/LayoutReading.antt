@@ -1,11 +1,11 @@
 -- Reading the layout of a merged text. The contracts of private functions cite it; no public
 -- clause does.
-use Rattle.std.specs.Prelude.{⊤, ◌≡◌, ℕ, List, [], ◌∷◌, ◌++◌, map, Option, Some, None, codes}
+use Rattle.std.specs.Prelude.{⊤, ℕ, List, [], ◌∷◌, ◌++◌, Option, Some, None, codes}
 use Rattle.c_lang.specs.Names.{Bytes}
 use Rattle.c_lang.specs.Layout as layout
 use Rattle.c_lang.specs.Layout.{both_name}
 use Rattle.c_lang.specs.declared.unit.Pos.{Pos}
-use Rattle.c_parser.specs.Readers.{Reader, ◌>>=◌, or_else, after, before, pair, mapped, many, many_before, behind, number, position, placed, ended}
+use Rattle.c_parser.specs.Readers.{Reader, ◌>>=◌, or_else, after, before, pair, mapped, many_before, behind, number, position, placed, ended}
 use Rattle.c_parser.specs.SourceReading.{show, setting, declared}
 
 -- ---- a point

@@ -1,6 +1,6 @@
 -- Readers: each takes something from the front of a text, and gives it and what follows it. The
 -- contracts of private functions cite them; no public clause does.
-use Rattle.std.specs.Prelude.{⊤, ◌≡◌, ℕ, zero, suc, ◌+◌, ◌-◌, ◌*◌, Bool, true, false, not, ◌&&◌, ◌||◌, if◌then◌else◌, ◌==◌, nat_le, nat_lt, List, [], ◌∷◌, ◌++◌, length, take, drop, slice_index, Option, Some, None, Result, Ok, Err, codes}
+use Rattle.std.specs.Prelude.{ℕ, zero, suc, ◌+◌, ◌-◌, ◌*◌, Bool, not, ◌&&◌, ◌||◌, if◌then◌else◌, ◌==◌, nat_le, nat_lt, List, [], ◌∷◌, ◌++◌, length, take, drop, slice_index, Option, Some, None, codes}
 use Rattle.std.specs.List.{prefix_len}
 use Rattle.c_lang.specs.Names.{Bytes, is_digit, is_letter}
 use Rattle.c_lang.specs.Units.{word}

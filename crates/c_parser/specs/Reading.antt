@@ -1,7 +1,7 @@
 -- Reading a program. The contracts of private functions cite it; no public clause does.
-use Rattle.std.specs.Prelude.{◌≡◌, nat_le, if◌then◌else◌, List, count_by, Option, Some, None}
+use Rattle.std.specs.Prelude.{nat_le, if◌then◌else◌, count_by, Option, Some, None}
 use Rattle.c_lang.specs.Names.{Bytes}
-use Rattle.c_lang.specs.Sources.{Source, is_point, source_program, setter_program}
+use Rattle.c_lang.specs.Sources.{is_point, source_program, setter_program}
 use Rattle.c_lang.specs.Layout.{layout_program}
 use Rattle.c_lang.specs.declared.unit.Unit.{Unit}
 use Rattle.c_lang.specs.declared.unit.Unit.TheVariants as unit

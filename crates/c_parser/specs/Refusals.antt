@@ -1,5 +1,5 @@
 -- What the reader of the first form answers where it gives no program.
-use Rattle.std.specs.Prelude.{⊤, ◌≡◌, List, None}
+use Rattle.std.specs.Prelude.{⊤, ◌≡◌, None}
 use Rattle.c_lang.specs.Names.{Bytes}
 use Rattle.c_lang.specs.Lines.{Lines}
 use Rattle.c_lang.specs.declared.unit.Unit.{Unit}

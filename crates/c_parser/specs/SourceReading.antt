@@ -1,6 +1,6 @@
 -- Reading a source of the first form, and a transformer. The contracts of private functions cite
 -- it; no public clause does.
-use Rattle.std.specs.Prelude.{ℕ, Bool, true, false, ◌||◌, bytes_eq, if◌then◌else◌, List, [], ◌∷◌, ◌++◌, map, Option, Some, None, Result, Ok, Err, ⊤, ◌≡◌, codes}
+use Rattle.std.specs.Prelude.{ℕ, Bool, true, false, ◌||◌, bytes_eq, if◌then◌else◌, List, [], map, Option, Some, None, Result, Ok, Err, ⊤, ◌≡◌, codes}
 use Rattle.c_lang.specs.Names.{Bytes}
 use Rattle.c_lang.specs.Sources as sources
 use Rattle.c_lang.specs.Sources.{Source, Setter}

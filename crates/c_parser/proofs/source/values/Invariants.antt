@@ -1,6 +1,6 @@
-use Rattle.std.proofs.Common.{length, map}
+use Rattle.std.proofs.Common.{length}
 use Rattle.c_parser.specs.Readers.{many}
-use Rattle.c_parser.specs.SourceReading.{action_of, action_line, setting}
+use Rattle.c_parser.specs.SourceReading.{setting}
 use Rattle.c_parser.proofs.Many.{IsLeft}
 use Rattle.c_parser.proofs.source.values.Given as goal
 

@@ -1,4 +1,4 @@
-use Rattle.std.proofs.Common.{sym, ◌∙◌, drop, length, arith}
+use Rattle.std.proofs.Common.{sym, ◌∙◌, drop, arith}
 use Rattle.std.proofs.lemmas.List.{length-drop}
 use Rattle.c_parser.proofs.Texts.{too_short}
 use Rattle.c_parser.proofs.text.behind.Goals as goal
