@@ -92,3 +92,82 @@ pub fn parse_lines(alloc: Global, unit: Unit, bytes: &[u8]) -> Result<Program, F
 pub fn one_program()
     ensures { (unit : Unit) (bytes : List ℕ) (p q : Program) → Lines unit bytes p → Lines unit bytes q → p ≡ q }
 {}
+
+#[cfg(test)]
+mod tests {
+    use super::*;
+    use c_lang::Stmt;
+
+    const VERSION: &[u8] =
+        b"#include \"dsu.h\"\nint n = 1;\nint main(void) {\nclient_out(n);\ndsu_update(1);\nclient_out(n);\nreturn 0;\n}\n";
+
+    const TWO_POINTS: &[u8] =
+        b"int n = 1;\nint main(void) {\ndsu_update(1);\ndsu_update(2);\nreturn 0;\n}";
+
+    #[test]
+    fn version_has_its_lines(rt: HostRuntime) {
+        match parse_lines(rt.alloc(), Unit::Old, VERSION) {
+            Ok(program) => {
+                assert_eq!(rt; program.globals.len(), 1);
+                match program.funcs.as_slice() {
+                    [main] => {
+                        assert_eq!(rt; main.pos.line, 3);
+                        assert_eq!(rt; main.body.len(), 4);
+                        match main.body.as_slice() {
+                            [_, Stmt::Point { pos, k }, ..] => {
+                                assert_eq!(rt; pos.line, 5);
+                                assert_eq!(rt; *k, 1);
+                            }
+                            _ => panic!(rt; "the second statement is no point"),
+                        }
+                    }
+                    _ => panic!(rt; "not one function"),
+                }
+            }
+            Err(_) => panic!(rt; "refused"),
+        }
+    }
+
+    #[test]
+    fn transformer_has_its_lines(rt: HostRuntime) {
+        let text = b"void dsu_transform(void) {\nn = 7;\n}";
+        match parse_lines(rt.alloc(), Unit::Xform, text) {
+            Ok(program) => match program.funcs.as_slice() {
+                [transform] => match transform.body.as_slice() {
+                    [Stmt::Set { pos, .. }] => assert_eq!(rt; pos.line, 2),
+                    _ => panic!(rt; "not one assignment"),
+                },
+                _ => panic!(rt; "not one function"),
+            },
+            Err(_) => panic!(rt; "refused"),
+        }
+    }
+
+    #[test]
+    fn new_version_may_have_two_points(rt: HostRuntime) {
+        assert!(rt; parse_lines(rt.alloc(), Unit::New, TWO_POINTS).is_ok());
+    }
+
+    #[test]
+    fn other_forms_are_refused(rt: HostRuntime) {
+        let texts: [&[u8]; 8] = [
+            TWO_POINTS,
+            b"int n = 1;\nint main(void) {\nn = n + 1;\nreturn 0;\n}\n",
+            b"int n = 01;\nint main(void) {\nreturn 0;\n}\n",
+            b"int n = 2147483648;\nint main(void) {\nreturn 0;\n}\n",
+            b"int main = 1;\nint main(void) {\nreturn 0;\n}\n",
+            b"int dsu_n = 1;\nint main(void) {\nreturn 0;\n}\n",
+            b"int while = 1;\nint main(void) {\nreturn 0;\n}\n",
+            b"int n = 1;\nint main(void) {\nreturn 0;\n}\n\n",
+        ];
+        for text in texts {
+            match parse_lines(rt.alloc(), Unit::Old, text) {
+                Err(Fail::Refused(refusal)) => {
+                    assert_eq!(rt; refusal.number, 29);
+                    assert_eq!(rt; refusal.pos.line, 1);
+                }
+                _ => panic!(rt; "not refused"),
+            }
+        }
+    }
+}
