@@ -1,5 +1,5 @@
 -- The groups of lines of a merged text, and the whole.
-use Rattle.std.proofs.Common.{◌≡◌, ℕ, ◌≤◌, false, eqb, [], ◌∷◌, ◌++◌, length, Some, None, refl, sym, ap, subst, ◌∙◌, append_assoc, inl, inr, arith}
+use Rattle.std.proofs.Common.{◌<◌, ◌≡◌, ℕ, ◌≤◌, false, eqb, [], ◌∷◌, ◌++◌, length, Some, None, refl, sym, ap, subst, ◌∙◌, append_assoc, inl, inr, arith}
 use Rattle.std.specs.Prelude.{⊤, codes}
 use Rattle.std.specs.List.{flat_map}
 use Rattle.std.specs.Fmt.{decimal}
@@ -14,7 +14,7 @@ use Rattle.c_parser.specs.SourceReading.{show, setting}
 use Rattle.c_parser.specs.LayoutReading.{expansion_of, expansion_parts, form, piece, last_of_version, main_of, version, placed_setting, closing, transform_of, transform}
 use Rattle.c_parser.proofs.Texts.{bind_some, behind_same, behind_is}
 use Rattle.c_parser.proofs.Combined.{Exact, exact_behind, exact_after, exact_before, exact_pair, exact_mapped, some_pair}
-use Rattle.c_parser.proofs.Many.{exact_many}
+use Rattle.c_parser.proofs.Many.{exact_many, shorter}
 use Rattle.c_parser.proofs.Tokens.{exact_number}
 use Rattle.c_parser.proofs.SourceLaws.{exact_show, exact_setting, no_show, client_apart_from, or_some}
 use Rattle.c_parser.proofs.LayoutLaws.{position_text, exact_position, exact_placed, exact_where}
@@ -145,21 +145,28 @@ module _ (name : Bytes) where
       no_piece (position_text p ++ more) more p (exact_position.complete p more ok)
       (not_again p more (no_show both more (client_apart_from 114 _ refl)) (no_semicolon 114 _ refl) (no_set name _ 114 refl) (no_if _))
 
+exact_placed_setting : (both : Bytes) → Exact (placed_setting both) (λ s. position_text s.0 ++ ended (set_line both s.1)) (λ s. IsPosition s.0 × FitsNumber s.1)
+unfolding placed_setting
+exact_placed_setting both = exact_pair _ _ _ exact_position (λ p. setting both) (λ p v. ended (set_line both v)) (λ p. FitsNumber) (λ p. exact_setting both)
+
+long_set : (both : Bytes) (s : Pos × ℕ) → 1 ≤ length (position_text s.0 ++ ended (set_line both s.1))
+long_set both s = omega (arith, length-append (position_text s.0) (ended (set_line both s.1)), length-append (layout.position_line s.0) (10 ∷ []))
+
+module _ (both : Bytes) where
   -- what was read behind a position
   record IsForm (p : Pos) (bytes rest : Bytes) (q : Piece) : Type 0 where
     parts : IsPosition p → IsPiece q
     placed_so : place q ≡ p
-    text : form_text (both_name name) q ++ rest ≡ bytes
+    text : form_text both q ++ rest ≡ bytes
 
   form_along : (p : Pos) (bytes rest next : Bytes) (q r : Piece) → q ≡ r → next ≡ rest → IsForm p bytes next q → IsForm p bytes rest r
   form_along p bytes rest next q r same follows h =
       let at_q : IsForm p bytes rest q = subst (λ (z : Bytes). IsForm p bytes z q) follows h in
       subst (λ (z : Piece). IsForm p bytes rest z) same at_q
 
-  form_is : (p : Pos) (bytes rest : Bytes) (q : Piece) → form (both_name name) p bytes ≡ Some (q, rest) → IsForm p bytes rest q
+  form_is : (p : Pos) (bytes rest : Bytes) (q : Piece) → form both p bytes ≡ Some (q, rest) → IsForm p bytes rest q
   unfolding form place form_text
   form_is p bytes rest q e =
-      let both = both_name name in
       elim (or_some (show both bytes >>= (λ rest. Some (shows p, rest))) _ (q, rest) e) [
         | inl h ↦
             let x = bind_some (show both bytes) (λ rest. Some (shows p, rest)) (q, rest) h in
@@ -186,10 +193,9 @@ module _ (name : Bytes) where
         ]
       ]
 
-  piece_is : (bytes rest : Bytes) (q : Piece) → piece (both_name name) bytes ≡ Some (q, rest) → IsPiece q × (piece_text q ++ rest ≡ bytes)
-  unfolding piece piece_text
+  piece_is : (bytes rest : Bytes) (q : Piece) → piece both bytes ≡ Some (q, rest) → IsPiece q × ((position_text (place q) ++ form_text both q) ++ rest ≡ bytes)
+  unfolding piece
   piece_is bytes rest q e =
-      let both = both_name name in
       let x = bind_some (position bytes) (λ x. form both x.0 x.1) (q, rest) e in
       let p = exact_position.sound bytes x.0.1 x.0.0 x.1 in
       let f = form_is x.0.0 x.0.1 rest q x.2 in (
@@ -197,10 +203,19 @@ module _ (name : Bytes) where
         append_assoc (position_text (place q)) (form_text both q) rest ∙ ap (λ (z : Bytes). position_text (place q) ++ z) f.text ∙ ap (λ (r : Pos). position_text r ++ x.0.1) f.placed_so ∙ p.1,
       )
 
-  pub exact_piece : Exact (piece (both_name name)) piece_text IsPiece
-  exact_piece = record { complete = λ q rest ok. piece_again q rest ok; sound = λ bytes rest q e. piece_is bytes rest q e }
+  pub piece_shorter : (bytes rest : Bytes) (q : Piece) → piece both bytes ≡ Some (q, rest) → length rest < length bytes
+  piece_shorter bytes rest q e =
+      shorter (λ r. position_text (place r) ++ form_text both r) bytes rest q (omega (arith, length-append (position_text (place q)) (form_text both q), length-append (layout.position_line (place q)) (10 ∷ []))) (piece_is bytes rest q e).1
 
-  long_piece : (q : Piece) → 1 ≤ length (piece_text q)
+  pub placed_setting_shorter : (bytes rest : Bytes) (s : Pos × ℕ) → placed_setting both bytes ≡ Some (s, rest) → length rest < length bytes
+  placed_setting_shorter bytes rest s e = shorter (λ (r : Pos × ℕ). position_text r.0 ++ ended (set_line both r.1)) bytes rest s (long_set both s) ((exact_placed_setting both).sound bytes rest s e).1
+
+module _ (name : Bytes) where
+  pub exact_piece : Exact (piece (both_name name)) (piece_text name) IsPiece
+  unfolding piece_text
+  exact_piece = record { complete = λ q rest ok. piece_again name q rest ok; sound = λ bytes rest q e. piece_is (both_name name) bytes rest q e }
+
+  long_piece : (q : Piece) → 1 ≤ length (piece_text name q)
   unfolding piece_text
   long_piece q = omega (arith, length-append (position_text (place q)) (form_text (both_name name) q), length-append (layout.position_line (place q)) (10 ∷ []))
 
@@ -232,10 +247,6 @@ exact_version head name =
     main_of (λ m. (m.head, (m.pieces, m.last))) (λ m. refl) (λ v. refl))
     (λ m. refl) (λ m h. record { head = h.0; pieces = h.1.0; last = h.1.1 }) (λ m h. (h.head, (h.pieces, h.last)))
 
-exact_placed_setting : (name : Bytes) → Exact (placed_setting (both_name name)) (λ s. position_text s.0 ++ ended (set_line (both_name name) s.1)) (λ s. IsPosition s.0 × FitsNumber s.1)
-unfolding placed_setting
-exact_placed_setting name = exact_pair _ _ _ exact_position (λ p. setting (both_name name)) (λ p v. ended (set_line (both_name name) v)) (λ p. FitsNumber) (λ p. exact_setting (both_name name))
-
 exact_closing : Exact closing (λ u. ended (codes "}")) (λ u. ⊤)
 unfolding closing
 exact_closing = record {
@@ -245,9 +256,6 @@ exact_closing = record {
       let p = some_pair tt u x.0 rest x.2 in
       (tt, ap (λ (z : Bytes). ended (codes "}") ++ z) (sym p.1) ∙ behind_is (ended (codes "}")) bytes x.0 x.1);
 }
-
-long_set : (name : Bytes) (s : Pos × ℕ) → 1 ≤ length (position_text s.0 ++ ended (set_line (both_name name) s.1))
-long_set name s = omega (arith, length-append (position_text s.0) (ended (set_line (both_name name) s.1)), length-append (layout.position_line s.0) (10 ∷ []))
 
 no_line : (rest : Bytes) → behind (codes "#line ") (125 ∷ rest) ≡ None
 unfolding behind
@@ -272,7 +280,7 @@ exact_transform name =
     exact_where _ _ (transform_text name) _ layout.IsTransform
     (exact_mapped _ _ _
     (exact_pair _ _ _ (exact_placed (ended (codes "void dsu_xform_dsu_transform(void) {"))) (λ p. many_before (placed_setting (both_name name)) closing) _ _
-    (λ p. exact_many (placed_setting (both_name name)) _ _ (exact_placed_setting name) closing (λ u. ended (codes "}")) (λ u. ⊤) exact_closing (long_set name)
+    (λ p. exact_many (placed_setting (both_name name)) _ _ (exact_placed_setting (both_name name)) closing (λ u. ended (codes "}")) (λ u. ⊤) exact_closing (long_set (both_name name))
     (λ u rest ok. no_placed_setting (both_name name) (125 ∷ 10 ∷ rest) (no_position (125 ∷ 10 ∷ rest) (no_line (10 ∷ rest))))))
     transform_of (λ t. (t.head, (t.sets, tt))) (λ t. refl) (λ v. refl))
     (λ t. refl) (λ t h. record { head = h.0; sets = h.1.0 }) (λ t h. (h.head, (h.sets, tt)))

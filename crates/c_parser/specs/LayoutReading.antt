@@ -1,12 +1,21 @@
 -- Reading the layout of a merged text. The contracts of private functions cite it; no public
 -- clause does.
-use Rattle.std.specs.Prelude.{⊤, ℕ, List, [], ◌∷◌, ◌++◌, Option, Some, None, codes}
+use Rattle.std.specs.Prelude.{⊤, ℕ, List, [], ◌∷◌, ◌++◌, map, Option, Some, None, codes}
 use Rattle.c_lang.specs.Names.{Bytes}
 use Rattle.c_lang.specs.Layout as layout
 use Rattle.c_lang.specs.Layout.{both_name}
 use Rattle.c_lang.specs.declared.unit.Pos.{Pos}
 use Rattle.c_parser.specs.Readers.{Reader, ◌>>=◌, or_else, after, before, pair, mapped, many_before, behind, number, position, placed, ended}
 use Rattle.c_parser.specs.SourceReading.{show, setting, declared}
+use Rattle.c_parser.specs.declared.layout.Expansion as code_expansion
+use Rattle.c_parser.specs.declared.layout.Piece as code_piece
+use Rattle.c_parser.specs.declared.layout.Piece.TheVariants as code
+use Rattle.c_parser.specs.declared.layout.Main as code_main
+use Rattle.c_parser.specs.declared.layout.Prototypes as code_prototypes
+use Rattle.c_parser.specs.declared.layout.Wrapper as code_wrapper
+use Rattle.c_parser.specs.declared.layout.Transform as code_transform
+use Rattle.c_parser.specs.declared.layout.Start as code_start
+use Rattle.c_parser.specs.declared.layout.Layout as code_layout
 
 -- ---- a point
 
@@ -144,3 +153,46 @@ whole x (b ∷ rest) = None
 
 unfoldable pub read : Bytes → Option layout.Layout
 read bytes = parts bytes >>= (λ x. whole x x.1)
+
+-- ---- what the code has read
+
+abbrev pub expansion_view : code_expansion.Expansion → layout.Expansion
+expansion_view e = record { unless = e.unless; choice = e.choice; test = e.test; flag = e.flag; call = e.call }
+
+abbrev pub piece_view : code_piece.Piece → layout.Piece
+piece_view (code.Shows p) = layout.shows p
+piece_view (code.Sets p value) = layout.sets p value
+piece_view (code.Skips p) = layout.skips p
+piece_view (code.Asks e k) = layout.asks (expansion_view e) k
+
+abbrev pub main_view : code_main.Main → layout.Main
+main_view m = record { head = m.head; pieces = map piece_view m.pieces.items; last = m.last }
+
+abbrev pub prototypes_view : code_prototypes.Prototypes → layout.Prototypes
+prototypes_view p = record { old = p.old; new = p.new; any = p.any; xform = p.xform; main = p.main }
+
+abbrev pub wrapper_view : code_wrapper.Wrapper → layout.Wrapper
+wrapper_view w = record { head = w.head; test = w.test; new_call = w.new_call; new_return = w.new_return; old_call = w.old_call; old_return = w.old_return }
+
+abbrev pub set_view : Pos × ℕ → Pos × ℕ
+set_view s = (s.0, s.1)
+
+abbrev pub transform_view : code_transform.Transform → layout.Transform
+transform_view t = record { head = t.head; sets = t.sets.items }
+
+abbrev pub start_view : code_start.Start → layout.Start
+start_view s = record { head = s.head; call = s.call; last = s.last }
+
+abbrev pub layout_view : code_layout.Layout → layout.Layout
+layout_view l = record {
+  name = l.name.now;
+  value = l.value;
+  prototypes = prototypes_view l.prototypes;
+  flag = l.flag;
+  cell = l.cell;
+  old = main_view l.old;
+  new = main_view l.new;
+  wrapper = wrapper_view l.wrapper;
+  transform = transform_view l.transform;
+  start = start_view l.start;
+}

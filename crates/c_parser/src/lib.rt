@@ -3,6 +3,7 @@
 
 mod build;
 mod first_form;
+mod layout;
 mod source;
 mod source_program;
 mod stop;
