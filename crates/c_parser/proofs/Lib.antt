@@ -6,5 +6,6 @@ pub mod SourceLaws
 pub mod SourceIs
 pub mod LayoutLaws
 pub mod LayoutIs
+pub mod LayoutRead
 pub mod LayoutWhole
 pub mod Programs

@@ -1,9 +1,16 @@
 -- Reading the layout of a merged text. The contracts of private functions cite it; no public
 -- clause does.
-use Rattle.std.specs.Prelude.{⊤, ℕ, List, [], ◌∷◌, ◌++◌, map, Option, Some, None, codes}
+use Rattle.std.specs.Prelude.{⊤, ℕ, pos, true, false, List, [], ◌∷◌, ◌++◌, map, Option, Some, None, codes}
 use Rattle.c_lang.specs.Names.{Bytes}
 use Rattle.c_lang.specs.Layout as layout
-use Rattle.c_lang.specs.Layout.{both_name}
+use Rattle.c_lang.specs.Sources as sources
+use Rattle.c_lang.specs.Sources.{FitsNumber}
+use Rattle.c_lang.specs.Layout.{both_name, prototype, piece_statement, IsPosition, IsPiece}
+use Rattle.c_lang.specs.declared.expr.Expr.TheVariants.{Lit}
+use Rattle.c_lang.specs.declared.stmt.Dest.TheVariants.{Nowhere, Into}
+use Rattle.c_lang.specs.declared.stmt.Stmt.{Stmt}
+use Rattle.c_lang.specs.declared.stmt.Stmt.TheVariants as stmt
+use Rattle.c_lang.specs.declared.program.Proto.{Proto}
 use Rattle.c_lang.specs.declared.unit.Pos.{Pos}
 use Rattle.c_parser.specs.Readers.{Reader, ◌>>=◌, or_else, after, before, pair, mapped, many_before, behind, number, position, placed, ended}
 use Rattle.c_parser.specs.SourceReading.{show, setting, declared}
@@ -90,6 +97,14 @@ start =
     pair (placed (ended (codes "int dsu_r = dsu_old_main();"))) (λ b.
     before (placed (ended (codes "return dsu_r;"))) (behind (ended (codes "}"))))))
 
+-- nothing follows
+abbrev pub whole : {A : Type 0} → A × Bytes → Bytes → Option A
+whole x [] = Some x.0
+whole x (b ∷ rest) = None
+
+unfoldable pub ending : Bytes → Option layout.Start
+ending bytes = start bytes >>= (λ x. whole x x.1)
+
 -- ---- prototypes and globals
 
 abbrev pub prototypes_of : Pos × (Pos × (Pos × (Pos × Pos))) → layout.Prototypes
@@ -146,11 +161,6 @@ versions both =
 unfoldable pub parts : Reader layout.Layout
 parts = mapped layout_of (pair opening (λ o. versions (name_in o)))
 
--- nothing follows
-abbrev pub whole : {A : Type 0} → A × Bytes → Bytes → Option A
-whole x [] = Some x.0
-whole x (b ∷ rest) = None
-
 unfoldable pub read : Bytes → Option layout.Layout
 read bytes = parts bytes >>= (λ x. whole x x.1)
 
@@ -196,3 +206,33 @@ layout_view l = record {
   transform = transform_view l.transform;
   start = start_view l.start;
 }
+
+-- ---- the statements of what the code has read
+
+abbrev pub IsSet : Pos × ℕ → Type 0
+IsSet s = IsPosition s.0 × FitsNumber s.1
+
+abbrev pub set_statement : Bytes → Pos × ℕ → Stmt
+set_statement name s = sources.set_statement (both_name name) s.0 s.1
+
+abbrev pub IsStatement : code_piece.Piece → Type 0
+IsStatement p = IsPiece (piece_view p)
+
+abbrev pub statement : Bytes → code_piece.Piece → Stmt
+statement name p = piece_statement name (piece_view p)
+
+-- the flag is set, and the transformer runs
+abbrev pub update_statements : Pos → Pos → List Stmt
+update_statements flag call =
+    stmt.Set flag (Into (codes "dsu_now")) (Lit (pos 1))
+    ∷ stmt.Call call Nowhere (codes "dsu_xform_dsu_transform") []
+    ∷ []
+
+abbrev pub protos : layout.Prototypes → List Proto
+protos p =
+    prototype (codes "dsu_old_main") true p.old
+    ∷ prototype (codes "dsu_new_main") true p.new
+    ∷ prototype (codes "dsu_any_main") true p.any
+    ∷ prototype (codes "dsu_xform_dsu_transform") false p.xform
+    ∷ prototype (codes "main") true p.main
+    ∷ []

@@ -1,15 +1,16 @@
 //! Texts of the first form: a straight line of outputs, assignments and points around one number.
 
-ghost use Rattle.std.specs.Prelude.{◌≡◌, ◌≢◌, ℕ, List, count_by, map, MatchResult};
+ghost use Rattle.std.specs.Prelude.{◌≡◌, ℕ, List, count_by, map, MatchResult};
 ghost use Rattle.c_lang.specs.Lines.{Lines};
 ghost use Rattle.c_lang.specs.Sources.{is_point};
 ghost use Rattle.c_lang.specs.declared.program.Program.{Program};
 ghost use Rattle.c_lang.specs.declared.unit.Unit.{Unit};
-ghost use Rattle.c_lang.specs.declared.unit.Unit.TheVariants.{Merge};
 ghost use Rattle.c_parser.specs.Reading as spec;
 ghost use Rattle.c_parser.specs.SourceReading.{Gives, action_of};
 ghost use Rattle.c_parser.specs.Refusals.{IsRefusedForm};
 
+use crate::layout::read_layout;
+use crate::layout_program::layout_program;
 use crate::source::{Action, read_setter, read_source};
 use crate::source_program::{setter_program, source_program};
 use crate::stop::Stop;
@@ -55,15 +56,23 @@ fn read_xform(alloc: Global, bytes: &[u8]) -> Result<Program, Stop>
     Ok(program)
 }
 
+fn read_merge(alloc: Global, bytes: &[u8]) -> Result<Program, Stop>
+    ensures { Gives (λ p. p) result (spec.program Unit.Merge bytes.now) }
+{
+    let layout = read_layout(alloc, bytes)?;
+    let program = layout_program(alloc, &layout)?;
+    Ok(program)
+}
+
 fn read_program(alloc: Global, unit: Unit, bytes: &[u8]) -> Result<Program, Stop>
-    requires { unit ≢ Merge }
     ensures { Gives (λ p. p) result (spec.program unit bytes.now) }
 {
     match unit {
         Unit::Old => read_old(alloc, bytes),
         Unit::New => read_new(alloc, bytes),
         Unit::Xform => read_xform(alloc, bytes),
-        Unit::Client | Unit::Merge | Unit::Hints | Unit::Certs => Err(Stop::OtherForm),
+        Unit::Merge => read_merge(alloc, bytes),
+        Unit::Client | Unit::Hints | Unit::Certs => Err(Stop::OtherForm),
     }
 }
 
@@ -74,7 +83,6 @@ fn read_program(alloc: Global, unit: Unit, bytes: &[u8]) -> Result<Program, Stop
 /// the two versions and the transformer have none. `NoMemory` comes where memory runs out, and for
 /// a text with more lines than a `u32` counts.
 pub fn parse_lines(alloc: Global, unit: Unit, bytes: &[u8]) -> Result<Program, Fail>
-    requires not_merged { unit ≢ Merge }
     ensures answer { MatchResult result (λ program. Lines unit bytes.now program) (λ fail. IsRefusedForm fail unit bytes.now) }
 {
     match read_program(alloc, unit, bytes) {

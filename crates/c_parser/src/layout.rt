@@ -264,6 +264,18 @@ fn read_start(bytes: &[u8]) -> Option<(Start, &[u8])>
     Some((Start { head, call, last }, rest))
 }
 
+/// `main`, behind which nothing stands.
+#[tactic(auto, unfolding(crate::specs::LayoutReading::ending))]
+fn read_ending(bytes: &[u8]) -> Option<Start>
+    ensures { MatchOption result (spec.ending bytes.now ≡ None) (λ s. spec.ending bytes.now ≡ Some (spec.start_view s)) }
+{
+    let (start, rest) = read_start(bytes)?;
+    match rest {
+        [] => Some(start),
+        _ => None,
+    }
+}
+
 #[tactic(auto, unfolding(crate::specs::LayoutReading::prototypes))]
 fn read_prototypes(bytes: &[u8]) -> Option<(Prototypes, &[u8])>
     ensures { MatchOption result (spec.prototypes bytes.now ≡ None) (λ x. spec.prototypes bytes.now ≡ Some (spec.prototypes_view x.0, x.1.now)) }
@@ -320,10 +332,43 @@ fn read_opening(bytes: &[u8]) -> Option<(Prototypes, Globals<'_>, &[u8])>
 }
 
 /// The shared number's name in the merged program.
-fn both_name(alloc: Global, name: &[u8]) -> Result<Name, AllocError>
+pub fn both_name(alloc: Global, name: &[u8]) -> Result<Name, AllocError>
     ensures { IfOk result (λ both. both ≡ names.both_name name.now) }
 {
     let mut bytes = Vec::from_slice(alloc, b"dsu_both_")?;
     bytes.extend_from_slice(name)?;
     Ok(Name::from_vec(bytes))
+}
+
+/// A whole merged text.
+#[tactic(auto, unfolding(crate::specs::LayoutReading::read, crate::specs::LayoutReading::parts, crate::specs::LayoutReading::ending))]
+pub fn read_layout(alloc: Global, bytes: &[u8]) -> Result<Layout<'_>, Stop>
+    ensures { Gives spec.layout_view result (spec.read bytes.now) }
+{
+    let Some((prototypes, globals, rest)) = read_opening(bytes) else {
+        return Err(Stop::OtherForm);
+    };
+    let name = both_name(alloc, globals.name)?;
+    let both = name.as_bytes();
+    let (old, rest) = version(alloc, b"int dsu_old_main(void) {\n", both, rest)?;
+    let (new, rest) = version(alloc, b"int dsu_new_main(void) {\n", both, rest)?;
+    let Some((wrapper, rest)) = read_wrapper(rest) else {
+        return Err(Stop::OtherForm);
+    };
+    let (transform, rest) = read_transform(alloc, both, rest)?;
+    let Some(start) = read_ending(rest) else {
+        return Err(Stop::OtherForm);
+    };
+    Ok(Layout {
+        name: globals.name,
+        value: globals.value,
+        prototypes,
+        flag: globals.flag,
+        cell: globals.cell,
+        old,
+        new,
+        wrapper,
+        transform,
+        start,
+    })
 }

@@ -4,6 +4,7 @@
 mod build;
 mod first_form;
 mod layout;
+mod layout_program;
 mod source;
 mod source_program;
 mod stop;
