@@ -1,0 +1,11 @@
+use Rattle.std.proofs.Common.{length}
+use Rattle.c_parser.specs.Readers.{many}
+use Rattle.c_parser.specs.SourceReading.{setting}
+use Rattle.c_parser.proofs.Many.{IsLeft}
+use Rattle.c_parser.proofs.source.values.Given as goal
+
+abbrev pub invariant-loop-value : goal.invariant-loop-value
+invariant-loop-value l = IsLeft (setting l.set) (l.values.items) l.rest (many (setting l.set) l.bytes)
+
+abbrev pub decreases-loop-value : goal.decreases-loop-value
+decreases-loop-value l = length l.rest

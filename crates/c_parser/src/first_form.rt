@@ -1,0 +1,181 @@
+//! Texts of the first form: a straight line of outputs, assignments and points around one number.
+
+ghost use Rattle.std.specs.Prelude.{◌≡◌, ℕ, List, count_by, map, MatchResult};
+ghost use Rattle.c_lang.specs.Lines.{Lines};
+ghost use Rattle.c_lang.specs.Sources.{is_point};
+ghost use Rattle.c_lang.specs.declared.program.Program.{Program};
+ghost use Rattle.c_lang.specs.declared.unit.Unit.{Unit};
+ghost use Rattle.c_parser.specs.Reading as spec;
+ghost use Rattle.c_parser.specs.SourceReading.{Gives, action_of};
+ghost use Rattle.c_parser.specs.Refusals.{IsRefusedForm};
+
+use crate::layout::read_layout;
+use crate::layout_program::layout_program;
+use crate::source::{Action, read_setter, read_source};
+use crate::source_program::{setter_program, source_program};
+use crate::stop::Stop;
+use c_lang::{Fail, Pos, Program, Refusal, Unit};
+use std::alloc::Global;
+
+fn points(actions: &[Action]) -> usize
+    ensures { result ≡ count_by is_point (map action_of actions.now) }
+{
+    let mut count = 0;
+    for action in actions {
+        if let Action::Asks(_) = action {
+            count += 1;
+        }
+    }
+    count
+}
+
+fn read_old(alloc: Global, bytes: &[u8]) -> Result<Program, Stop>
+    ensures { Gives (λ p. p) result (spec.program Unit.Old bytes.now) }
+{
+    let source = read_source(alloc, bytes)?;
+    if points(&source.actions) > 1 {
+        return Err(Stop::OtherForm);
+    }
+    let program = source_program(alloc, Unit::Old, &source)?;
+    Ok(program)
+}
+
+fn read_new(alloc: Global, bytes: &[u8]) -> Result<Program, Stop>
+    ensures { Gives (λ p. p) result (spec.program Unit.New bytes.now) }
+{
+    let source = read_source(alloc, bytes)?;
+    let program = source_program(alloc, Unit::New, &source)?;
+    Ok(program)
+}
+
+fn read_xform(alloc: Global, bytes: &[u8]) -> Result<Program, Stop>
+    ensures { Gives (λ p. p) result (spec.program Unit.Xform bytes.now) }
+{
+    let setter = read_setter(alloc, bytes)?;
+    let program = setter_program(alloc, &setter)?;
+    Ok(program)
+}
+
+fn read_merge(alloc: Global, bytes: &[u8]) -> Result<Program, Stop>
+    ensures { Gives (λ p. p) result (spec.program Unit.Merge bytes.now) }
+{
+    let layout = read_layout(alloc, bytes)?;
+    let program = layout_program(alloc, &layout)?;
+    Ok(program)
+}
+
+fn read_program(alloc: Global, unit: Unit, bytes: &[u8]) -> Result<Program, Stop>
+    ensures { Gives (λ p. p) result (spec.program unit bytes.now) }
+{
+    match unit {
+        Unit::Old => read_old(alloc, bytes),
+        Unit::New => read_new(alloc, bytes),
+        Unit::Xform => read_xform(alloc, bytes),
+        Unit::Merge => read_merge(alloc, bytes),
+        Unit::Client | Unit::Hints | Unit::Certs => Err(Stop::OtherForm),
+    }
+}
+
+/// The program of a text of the first form, whose last line feed may be missing. Positions are the
+/// lines of the text. The unit is not that of merged texts.
+///
+/// Refusal 29 stands at line 1 of the unit, exactly where the text has no program. Units other than
+/// the two versions and the transformer have none. `NoMemory` comes where memory runs out, and for
+/// a text with more lines than a `u32` counts.
+pub fn parse_lines(alloc: Global, unit: Unit, bytes: &[u8]) -> Result<Program, Fail>
+    ensures answer { MatchResult result (λ program. Lines unit bytes.now program) (λ fail. IsRefusedForm fail unit bytes.now) }
+{
+    match read_program(alloc, unit, bytes) {
+        Ok(program) => Ok(program),
+        Err(Stop::NoMemory) => Err(Fail::NoMemory),
+        Err(Stop::OtherForm) => Err(Fail::Refused(Refusal {
+            number: 29,
+            pos: Pos { unit, line: 1 },
+            name: None,
+        })),
+    }
+}
+
+/// A text has one program at most.
+pub fn one_program()
+    ensures { (unit : Unit) (bytes : List ℕ) (p q : Program) → Lines unit bytes p → Lines unit bytes q → p ≡ q }
+{}
+
+#[cfg(test)]
+mod tests {
+    use super::*;
+    use c_lang::Stmt;
+
+    const VERSION: &[u8] =
+        b"#include \"dsu.h\"\nint n = 1;\nint main(void) {\nclient_out(n);\ndsu_update(1);\nclient_out(n);\nreturn 0;\n}\n";
+
+    const TWO_POINTS: &[u8] =
+        b"int n = 1;\nint main(void) {\ndsu_update(1);\ndsu_update(2);\nreturn 0;\n}";
+
+    #[test]
+    fn version_has_its_lines(rt: HostRuntime) {
+        match parse_lines(rt.alloc(), Unit::Old, VERSION) {
+            Ok(program) => {
+                assert_eq!(rt; program.globals.len(), 1);
+                match program.funcs.as_slice() {
+                    [main] => {
+                        assert_eq!(rt; main.pos.line, 3);
+                        assert_eq!(rt; main.body.len(), 4);
+                        match main.body.as_slice() {
+                            [_, Stmt::Point { pos, k }, ..] => {
+                                assert_eq!(rt; pos.line, 5);
+                                assert_eq!(rt; *k, 1);
+                            }
+                            _ => panic!(rt; "the second statement is no point"),
+                        }
+                    }
+                    _ => panic!(rt; "not one function"),
+                }
+            }
+            Err(_) => panic!(rt; "refused"),
+        }
+    }
+
+    #[test]
+    fn transformer_has_its_lines(rt: HostRuntime) {
+        let text = b"void dsu_transform(void) {\nn = 7;\n}";
+        match parse_lines(rt.alloc(), Unit::Xform, text) {
+            Ok(program) => match program.funcs.as_slice() {
+                [transform] => match transform.body.as_slice() {
+                    [Stmt::Set { pos, .. }] => assert_eq!(rt; pos.line, 2),
+                    _ => panic!(rt; "not one assignment"),
+                },
+                _ => panic!(rt; "not one function"),
+            },
+            Err(_) => panic!(rt; "refused"),
+        }
+    }
+
+    #[test]
+    fn new_version_may_have_two_points(rt: HostRuntime) {
+        assert!(rt; parse_lines(rt.alloc(), Unit::New, TWO_POINTS).is_ok());
+    }
+
+    #[test]
+    fn other_forms_are_refused(rt: HostRuntime) {
+        let texts: [&[u8]; 8] = [
+            TWO_POINTS,
+            b"int n = 1;\nint main(void) {\nn = n + 1;\nreturn 0;\n}\n",
+            b"int n = 01;\nint main(void) {\nreturn 0;\n}\n",
+            b"int n = 2147483648;\nint main(void) {\nreturn 0;\n}\n",
+            b"int main = 1;\nint main(void) {\nreturn 0;\n}\n",
+            b"int dsu_n = 1;\nint main(void) {\nreturn 0;\n}\n",
+            b"int while = 1;\nint main(void) {\nreturn 0;\n}\n",
+            b"int n = 1;\nint main(void) {\nreturn 0;\n}\n\n",
+        ];
+        for text in texts {
+            match parse_lines(rt.alloc(), Unit::Old, text) {
+                Err(Fail::Refused(refusal)) => {
+                    assert_eq!(rt; refusal.number, 29);
+                    assert_eq!(rt; refusal.pos.line, 1);
+                }
+                _ => panic!(rt; "not refused"),
+            }
+        }
+    }
+}
