@@ -1,9 +1,9 @@
 -- The bodies of sources of the first form, merged statement by statement.
-use Rattle.std.proofs.Common.{◌≡◌, ℕ, ◌+◌, ℤ, pos, Bool, true, false, ◌&&◌, if◌then◌else◌, List, [], ◌∷◌, ◌++◌, map, Option, Some, None, refl, sym, ap, ap₂, ◌∙◌, codes}
+use Rattle.std.proofs.Common.{◌≡◌, ℕ, ◌+◌, ℤ, pos, Bool, true, if◌then◌else◌, List, [], ◌∷◌, ◌++◌, map, Some, refl, sym, ap, ap₂, ◌∙◌}
 use Rattle.c_lang.specs.Names.{Bytes}
-use Rattle.c_lang.specs.Trees.{expression_of, expr_of, literal, variable}
+use Rattle.c_lang.specs.Trees.{expr_of}
 use Rattle.c_lang.specs.Sources.{Action, shows, asks, sets, at, set_statement, action_statement, return_zero, main_body, setter_body}
-use Rattle.c_lang.specs.Layout.{Piece, both_name, expansion, piece_statement, transform_body}
+use Rattle.c_lang.specs.Layout.{both_name, piece_statement}
 use Rattle.c_lang.specs.Origin.{Origin}
 use Rattle.c_lang.specs.Origin as origin
 use Rattle.c_lang.proofs.TreeLemmas.{expression_of-Lit, expression_of-Var}
@@ -11,14 +11,13 @@ use Rattle.c_lang.specs.declared.unit.Pos.{Pos}
 use Rattle.c_lang.specs.declared.unit.Unit.TheVariants as unit
 use Rattle.c_lang.specs.declared.expr.Expr.{Expr}
 use Rattle.c_lang.specs.declared.expr.Expr.TheVariants.{Lit, Var}
-use Rattle.c_lang.specs.declared.stmt.Dest.{Dest}
 use Rattle.c_lang.specs.declared.stmt.Dest.TheVariants.{Into}
 use Rattle.c_lang.specs.declared.stmt.Stmt.{Stmt, roll-Stmt, map-Stmt, fold-roll-Stmt}
 use Rattle.c_lang.specs.declared.stmt.Stmt.TheOpen.{Stmt-F}
 use Rattle.c_lang.specs.declared.stmt.Stmt.TheOpen as one
 use Rattle.c_lang.specs.declared.stmt.Stmt.TheVariants as stmt
-use Rattle.merge_core.specs.FirstMerge.{expansion_at, merged_piece, merged_pieces, last_line, merged_sets}
-use Rattle.merge_core.proofs.Renaming.{renamed, under, renamed_dest}
+use Rattle.merge_core.specs.FirstMerge.{merged_piece, merged_pieces, last_line, merged_sets}
+use Rattle.merge_core.proofs.Renaming.{renamed, under}
 use Rattle.merge_core.proofs.MergedStatements.{now_name, is_nil, point_body, merged_layer, merged_stmt}
 
 module _ (permits : ℕ → Bool) (ρ κ : Origin → Bytes → Bytes) (name : Bytes) where

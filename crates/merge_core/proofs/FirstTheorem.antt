@@ -1,25 +1,22 @@
 -- The merged program of two sources of the first form shows what their updating run shows.
-use Rattle.std.proofs.Common.{◌≡◌, ℕ, ◌+◌, ℤ, pos, Bool, true, false, ◌&&◌, if◌then◌else◌, List, [], ◌∷◌, ◌++◌, map, Option, Some, None, unwrap_or, refl, sym, ap, ap₂, ◌∙◌, subst, codes, ◌⊎◌, inl, inr, ◌↔◌}
-use Rattle.std.specs.Option.{option_map}
+use Rattle.std.proofs.Common.{◌≡◌, ◌+◌, Bool, true, false, if◌then◌else◌, List, [], ◌∷◌, ◌++◌, map, Option, Some, None, unwrap_or, refl, sym, ap, ◌∙◌, subst, codes, ◌⊎◌, inl, inr}
 use Rattle.std.specs.Str.{bytes_eq}
 use Rattle.c_lang.specs.Names.{Bytes}
-use Rattle.c_lang.specs.Values.{Value, Num, Code, Null}
-use Rattle.c_lang.specs.Moves.{Move, Goes, Shows}
+use Rattle.c_lang.specs.Moves.{Goes}
 use Rattle.c_lang.specs.Steps as steps
 use Rattle.c_lang.specs.Steps.{Does, Live, Over, Frame, Config}
-use Rattle.c_lang.specs.Sources.{Source, Setter, Action, at, global, first_line}
-use Rattle.c_lang.specs.Layout.{both_name, layout_program, returned_call}
+use Rattle.c_lang.specs.Sources.{at, global, first_line}
+use Rattle.c_lang.specs.Layout.{both_name, layout_program}
 use Rattle.c_lang.specs.Programs.{func_named, func_in, no_func, global_named, initial_value, initial_row}
-use Rattle.c_lang.specs.PlainRun.{Store, PlainFrame, PlainConfig, plain_access, dropped, step, start, Obs}
+use Rattle.c_lang.specs.PlainRun.{Store, PlainFrame, PlainConfig, plain_access, dropped, step, start}
 use Rattle.c_lang.specs.Version.{Version}
 use Rattle.c_lang.specs.Version as version
 use Rattle.c_lang.specs.Home.{Home, Linked}
 use Rattle.c_lang.specs.Home as home
 use Rattle.c_lang.specs.Origin.{Origin}
 use Rattle.c_lang.specs.Origin as origin
-use Rattle.c_lang.specs.UpdatingRun.{World, State, swapped_state, UpdFrame, UpdConfig, cell_meaning, function_meaning, version_code, code_of, updating_access, first_state, step_updating, start_updating, ObsU, if_in_old, if_new}
-use Rattle.c_lang.proofs.Simulation.{Comes, silently, goes_once}
-use Rattle.c_lang.specs.declared.event.Event.{Event}
+use Rattle.c_lang.specs.UpdatingRun.{World, State, swapped_state, UpdFrame, cell_meaning, function_meaning, code_of, updating_access, first_state, start_updating}
+use Rattle.c_lang.proofs.Simulation.{silently, goes_once}
 use Rattle.c_lang.specs.declared.unit.Pos.{Pos}
 use Rattle.c_lang.specs.declared.unit.Unit.TheVariants as unit
 use Rattle.c_lang.specs.declared.stmt.Kind.TheVariants as kind
@@ -28,11 +25,11 @@ use Rattle.c_lang.specs.declared.stmt.Stmt.TheVariants as stmt
 use Rattle.c_lang.specs.declared.program.GlobalVar.{GlobalVar}
 use Rattle.c_lang.specs.declared.program.Func.{Func}
 use Rattle.c_lang.specs.declared.program.Program.{Program}
-use Rattle.merge_core.specs.FirstMerge.{merged_layout, world_of, ShowsTheSame, main_at}
-use Rattle.merge_core.proofs.MergedStatements.{result_name, hand_on, merged_stmt}
+use Rattle.merge_core.specs.FirstMerge.{merged_layout, ShowsTheSame, main_at}
+use Rattle.merge_core.proofs.MergedStatements.{result_name, hand_on}
 use Rattle.merge_core.proofs.EvaluationRenamed.{renamed_value}
-use Rattle.merge_core.proofs.MergedNames.{cell_name, code_name, kept, by_bool, bytes_eq-refl, free-kept, own-kept, variable_name, function_name, merged_naming}
-use Rattle.merge_core.proofs.Relation.{Merging, SameState, SameFrame, R, is_there, transform_function}
+use Rattle.merge_core.proofs.MergedNames.{cell_name, code_name, kept, bytes_eq-refl, free-kept, own-kept, variable_name, function_name, merged_naming}
+use Rattle.merge_core.proofs.Relation.{Merging, SameState, SameFrame}
 use Rattle.merge_core.proofs.FrameLemmas.{IsMerged, HasTransform, does_map}
 use Rattle.merge_core.proofs.CallLemmas.{HasFuncs, IsCallable, IsDirect, IsWrapper, MayCall}
 use Rattle.merge_core.proofs.Callable.{Good, same_prefixes}
@@ -116,10 +113,17 @@ module _ (F : FirstParts) where
   func_in-kept : (f : Bytes) → bytes_eq (codes "main") f ≡ false → func_in P.funcs (kept f) ≡ no_func
   func_in-kept f apart = ap (λ (d : Option Func). unwrap_or d no_func) (func_named-none P.funcs (kept f) (
     own-kept 111 (codes "ld_main") f refl refl,
-    (own-kept 110 (codes "ew_main") f refl refl,
-    (own-kept 97 (codes "ny_main") f refl refl,
-    (own-kept 120 (codes "form_dsu_transform") f refl refl,
-    (free-kept (codes "main") f refl apart, tt))))))
+    (
+      own-kept 110 (codes "ew_main") f refl refl,
+      (
+        own-kept 97 (codes "ny_main") f refl refl,
+        (
+          own-kept 120 (codes "form_dsu_transform") f refl refl,
+          (free-kept (codes "main") f refl apart, tt),
+        ),
+      ),
+    ),
+  ))
 
   no_function : (now : Version) (f : Bytes) → bytes_eq (codes "main") f ≡ false → IsDirect M now (home.Unlinked, f)
   no_function now f apart = subst (IsMerged M origin.Old no_func) (sym (func_in-kept f apart)) (record { params = refl; body = refl; gives = refl })

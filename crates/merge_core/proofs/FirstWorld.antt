@@ -1,5 +1,5 @@
 -- What names stand for where two versions share one number and `main`, and nothing else.
-use Rattle.std.proofs.Common.{◌≡◌, ℕ, ◌+◌, ℤ, pos, Bool, true, false, ◌&&◌, if◌then◌else◌, List, [], ◌∷◌, ◌++◌, Option, Some, None, is_some, refl, sym, ap, ap₂, ◌∙◌, subst, codes, ◌⊎◌, inl, inr}
+use Rattle.std.proofs.Common.{◌≡◌, ℕ, ◌+◌, Bool, true, false, if◌then◌else◌, List, Option, Some, None, is_some, refl, sym, ap, ap₂, ◌∙◌, subst, codes, ◌⊎◌, inl, inr}
 use Rattle.std.specs.Prelude.{⊤}
 use Rattle.std.specs.Str.{bytes_eq}
 use Rattle.std.proofs.lemmas.Slice.Eq.{bytes_eq-Decides}
@@ -12,13 +12,12 @@ use Rattle.c_lang.specs.Home.{Home, Linked, same_home}
 use Rattle.c_lang.specs.Home as home
 use Rattle.c_lang.specs.Origin.{Origin}
 use Rattle.c_lang.specs.Origin as origin
-use Rattle.c_lang.specs.Programs.{func_named}
 use Rattle.c_lang.specs.UpdatingRun.{World, behind, old_or_new, linked_by_prefix, cell_meaning, function_meaning}
 use Rattle.c_lang.specs.declared.unit.Unit.TheVariants as unit
 use Rattle.c_lang.specs.declared.program.GlobalVar.{GlobalVar}
 use Rattle.c_lang.specs.declared.program.Func.{Func}
 use Rattle.c_lang.specs.declared.program.Program.{Program}
-use Rattle.merge_core.specs.FirstMerge.{world_of, merged_layout}
+use Rattle.merge_core.specs.FirstMerge.{world_of}
 use Rattle.merge_core.proofs.MergedNames.{by_bool, true_false, bytes_eq-refl}
 use Rattle.merge_core.proofs.Relation.{is_there}
 
@@ -60,8 +59,11 @@ module _ (key : Bytes) (home_of : Version → Bytes → Home) (only : SharesOnly
   prefix-is x = by_bool (bytes_eq key x)
       (λ h. inl (ap (λ b. if b then (home.Both, x) else other) (ap (λ (z : Home). same_home z home.Both) (shared version.Old x h))
       ∙ ap (λ (y : Bytes). (home.Both, y)) (sym ((bytes_eq-Decides key x).0 h))))
-      (λ h. inr (ap (λ b. if b then (home.Both, x) else other) (ap (λ (z : Home). same_home z home.Both) (unlinked version.Old x h))
-      ∙ none_alone x (behind (codes "dsu_old_") x) (behind (codes "dsu_new_") x), h))
+      (λ h. inr (
+        ap (λ b. if b then (home.Both, x) else other) (ap (λ (z : Home). same_home z home.Both) (unlinked version.Old x h))
+            ∙ none_alone x (behind (codes "dsu_old_") x) (behind (codes "dsu_new_") x),
+        h,
+      ))
     where
       other : Linked
       other = old_or_new home_of x (behind (codes "dsu_old_") x) (behind (codes "dsu_new_") x)

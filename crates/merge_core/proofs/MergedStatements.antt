@@ -1,6 +1,6 @@
 -- The merged statements: names are those of the merged program, and points, forces and picks are
 -- tests of the flag.
-use Rattle.std.specs.Prelude.{ℕ, ℤ, pos, Bool, true, false, map, ◌&&◌, if◌then◌else◌, List, [], ◌∷◌, Option, Some, None, codes}
+use Rattle.std.specs.Prelude.{ℕ, pos, Bool, true, false, map, ◌&&◌, if◌then◌else◌, List, [], ◌∷◌, Some, codes}
 use Rattle.c_lang.specs.Names.{Bytes}
 use Rattle.c_lang.specs.declared.expr.Op.TheVariants as op
 use Rattle.c_lang.specs.declared.expr.Expr.{Expr}
@@ -15,7 +15,7 @@ use Rattle.c_lang.specs.declared.stmt.Stmt.TheOpen as one
 use Rattle.c_lang.specs.declared.stmt.Stmt.TheVariants as stmt
 use Rattle.c_lang.specs.Origin.{Origin, may_update}
 use Rattle.c_lang.specs.Steps.{Item, Does, Mark}
-use Rattle.merge_core.proofs.Renaming.{under, stmt_under}
+use Rattle.merge_core.proofs.Renaming.{stmt_under}
 
 abbrev pub now_name : Bytes
 now_name = codes "dsu_now"

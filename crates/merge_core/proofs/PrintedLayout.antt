@@ -1,11 +1,10 @@
 -- The text of a program of the layout is the text of the layout's lines.
-use Rattle.std.proofs.Common.{◌≡◌, ℕ, ℤ, pos, Bool, true, false, List, [], ◌∷◌, ◌++◌, map, Some, refl, sym, ap, ap₂, ◌∙◌, codes, append_assoc, append-nil}
+use Rattle.std.proofs.Common.{◌≡◌, ℕ, pos, Bool, true, false, List, [], ◌∷◌, ◌++◌, map, Some, refl, sym, ap, ap₂, ◌∙◌, codes, append_assoc, append-nil}
 use Rattle.std.specs.List.{flat_map}
 use Rattle.std.specs.Fmt.{decimal, digits}
 use Rattle.std.proofs.lemmas.List.Concat.{flat_map-append}
 use Rattle.c_lang.specs.Names.{Bytes}
-use Rattle.c_lang.specs.Units.{word}
-use Rattle.c_lang.specs.Trees.{Expression, Statement, Statements, expression_of, statement_of, statements, binary}
+use Rattle.c_lang.specs.Trees.{Expression, expression_of, statement_of, statements, binary}
 use Rattle.c_lang.specs.Lines.{text_of}
 use Rattle.c_lang.specs.Sources.{set_line, show_line, set_statement, return_zero, global_line, global, function}
 use Rattle.c_lang.specs.Layout as layout
@@ -14,7 +13,7 @@ use Rattle.c_lang.proofs.TreeLemmas.{expression_of-Lit, expression_of-Var, expre
 use Rattle.c_lang.specs.declared.unit.Pos.{Pos}
 use Rattle.c_lang.specs.declared.expr.Op.TheVariants as op
 use Rattle.c_lang.specs.declared.expr.Expr.{Expr}
-use Rattle.c_lang.specs.declared.expr.Expr.TheVariants.{Lit, Var, Bin}
+use Rattle.c_lang.specs.declared.expr.Expr.TheVariants.{Lit, Var}
 use Rattle.c_lang.specs.declared.stmt.Kind.TheVariants as kind
 use Rattle.c_lang.specs.declared.stmt.Dest.TheVariants.{Nowhere, Into, Fresh}
 use Rattle.c_lang.specs.declared.stmt.Stmt.{Stmt}
@@ -234,12 +233,12 @@ wrapper-text w =
     let olds = placed w.old_call (codes "int dsu_r = dsu_old_main();") ++ placed w.old_return (codes "return dsu_r;") in
     append-nil (one_text (stmt.If w.test (is_set_test (codes "dsu_now")) (returned_call w.new_call w.new_return (codes "dsu_new_main")) (returned_call w.old_call w.old_return (codes "dsu_old_main"))))
     ∙ if-text w.test (is_set_test (codes "dsu_now")) (returned_call w.new_call w.new_return (codes "dsu_new_main")) (returned_call w.old_call w.old_return (codes "dsu_old_main"))
-        (codes "dsu_now != 0") (set-test (codes "dsu_now") ∙ ap (λ (d : Bytes). codes "dsu_now != " ++ d) zero-digits)
+    (codes "dsu_now != 0") (set-test (codes "dsu_now") ∙ ap (λ (d : Bytes). codes "dsu_now != " ++ d) zero-digits)
     ∙ ap₂ (λ (y z : Bytes). position_text w.test ++ (codes "if (dsu_now != 0" ++ (codes ") {\n" ++ (y ++ (codes "} else {\n" ++ (z ++ codes "}\n"))))))
-        (returned-text w.new_call w.new_return (codes "dsu_new_main")) (returned-text w.old_call w.old_return (codes "dsu_old_main"))
+    (returned-text w.new_call w.new_return (codes "dsu_new_main")) (returned-text w.old_call w.old_return (codes "dsu_old_main"))
     ∙ sym (placed-text w.test (codes "if (dsu_now != 0) {") (news ++ (codes "} else {" ∷ (olds ++ (codes "}" ∷ []))))
     ∙ ap (λ (z : Bytes). position_text w.test ++ (codes "if (dsu_now != 0) {" ++ (codes "\n" ++ z)))
-        (text_of-append news (codes "} else {" ∷ (olds ++ (codes "}" ∷ []))) ∙ ap (λ (z : Bytes). text_of news ++ (codes "} else {\n" ++ z)) (text_of-append olds (codes "}" ∷ [])))
+    (text_of-append news (codes "} else {" ∷ (olds ++ (codes "}" ∷ []))) ∙ ap (λ (z : Bytes). text_of news ++ (codes "} else {\n" ++ z)) (text_of-append olds (codes "}" ∷ [])))
     ∙ simp append_assoc)
 
 wrapper-text-lines : (w : Wrapper) → func_text (function (codes "dsu_any_main") true (wrapper_body w) w.head) ≡ text_of (wrapper_lines w)
@@ -267,12 +266,12 @@ prototype-text : (name : Bytes) (gives : Bool) (p : Pos) (line : Bytes)
 prototype-text name gives p line is = ap (λ (z : Bytes). position_text p ++ z) is ∙ sym (line-text p line)
 
 prototypes-text : (p : Prototypes) → flat_map proto_text (
-      prototype (codes "dsu_old_main") true p.old
-      ∷ prototype (codes "dsu_new_main") true p.new
-      ∷ prototype (codes "dsu_any_main") true p.any
-      ∷ prototype (codes "dsu_xform_dsu_transform") false p.xform
-      ∷ prototype (codes "main") true p.main
-      ∷ []) ≡ text_of (prototype_lines p)
+    prototype (codes "dsu_old_main") true p.old
+    ∷ prototype (codes "dsu_new_main") true p.new
+    ∷ prototype (codes "dsu_any_main") true p.any
+    ∷ prototype (codes "dsu_xform_dsu_transform") false p.xform
+    ∷ prototype (codes "main") true p.main
+    ∷ []) ≡ text_of (prototype_lines p)
 prototypes-text p =
     let old = prototype-text (codes "dsu_old_main") true p.old (codes "int dsu_old_main(void);") refl in
     let new = prototype-text (codes "dsu_new_main") true p.new (codes "int dsu_new_main(void);") refl in

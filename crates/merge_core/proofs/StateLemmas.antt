@@ -1,49 +1,35 @@
 -- Reading and writing names keeps the states and the frames related.
-use Rattle.std.proofs.Common.{◌≡◌, ℕ, zero, suc, ℤ, pos, negsuc, Bool, true, false, not, ◌&&◌, if◌then◌else◌, List, [], ◌∷◌, ◌++◌, map, Option, Some, None, Result, Ok, Err, refl, sym, ap, ap₂, ◌∙◌, subst, rules, ◌⊎◌, inl, inr, length, arith, append-nil, codes}
+use Rattle.std.proofs.Common.{◌≡◌, ℤ, Bool, true, false, ◌&&◌, if◌then◌else◌, List, [], ◌∷◌, map, Option, Some, None, Result, Ok, Err, refl, sym, ap, ap₂, ◌∙◌}
 use Rattle.std.specs.Option.{option_map}
 use Rattle.std.specs.Str.{bytes_eq}
-use Rattle.std.proofs.lemmas.Slice.Eq.{bytes_eq-Decides}
-use Rattle.std.proofs.lemmas.List.{map-append}
 use Rattle.c_lang.specs.Names.{Bytes}
 use Rattle.c_lang.specs.Trees.{expression_of}
-use Rattle.c_lang.specs.Values.{Value, Num, Code, Null, Answer, number, is_zero}
-use Rattle.c_lang.specs.Evaluation.{Look, ev, joined}
-use Rattle.c_lang.specs.Moves.{Move, Goes, Asks, Rests}
+use Rattle.c_lang.specs.Values.{Value, Answer}
+use Rattle.c_lang.specs.Evaluation.{Look, ev}
+use Rattle.c_lang.specs.Moves.{Move}
 use Rattle.c_lang.specs.Steps as steps
 use Rattle.c_lang.specs.Steps.{updated, local_or, Locals, Item, Does, Mark, Frame, Config, Live, Over, after_mark}
-use Rattle.c_lang.specs.Programs.{func_in, no_func}
-use Rattle.c_lang.specs.PlainRun.{Store, PlainFrame, PlainConfig, plain_access, dropped, step}
+use Rattle.c_lang.specs.PlainRun.{Store, PlainFrame, PlainConfig, plain_access, step}
 use Rattle.c_lang.specs.Version.{Version, is_old}
 use Rattle.c_lang.specs.Version as version
 use Rattle.c_lang.specs.Home.{Home, Linked, same_home, same_linked}
 use Rattle.c_lang.specs.Home as home
-use Rattle.c_lang.specs.Origin.{Origin, may_update}
-use Rattle.c_lang.specs.Origin as origin
-use Rattle.c_lang.specs.UpdatingRun.{World, State, UpdFrame, UpdConfig, put_linked, cell_meaning, function_meaning, version_code, code_of, updating_access, swapped_state, swapped, picked, update, step_updating}
-use Rattle.c_lang.proofs.Simulation.{Leads, Comes, Takes, Waits, Ends, Matches, matches_after, goes_once, leads_on, then_leads, silently, comes_on, takes_once, comes_takes, takes_comes, waits_there, comes_waits, ends_there, Holds}
+use Rattle.c_lang.specs.Origin.{Origin}
+use Rattle.c_lang.specs.UpdatingRun.{World, State, UpdFrame, UpdConfig, put_linked, cell_meaning, updating_access, swapped_state}
+use Rattle.c_lang.proofs.Simulation.{goes_once}
 use Rattle.c_lang.specs.declared.unit.Pos.{Pos}
 use Rattle.c_lang.specs.declared.event.Trap.{Trap}
-use Rattle.c_lang.specs.declared.event.Trap.TheVariants.{Assert, Index, NullCall}
-use Rattle.c_lang.specs.declared.event.Event.{Event}
+use Rattle.c_lang.specs.declared.event.Trap.TheVariants.{Index}
 use Rattle.c_lang.specs.declared.event.Event.TheVariants as event
 use Rattle.c_lang.specs.declared.expr.Expr.{Expr}
-use Rattle.c_lang.specs.declared.expr.Expr.TheVariants.{Var, Lit}
-use Rattle.c_lang.specs.declared.expr.Op.TheVariants as op
-use Rattle.c_lang.specs.declared.stmt.Kind.{Kind}
-use Rattle.c_lang.specs.declared.stmt.Kind.TheVariants as kind
 use Rattle.c_lang.specs.declared.stmt.Dest.{Dest}
 use Rattle.c_lang.specs.declared.stmt.Dest.TheVariants.{Nowhere, Into, Fresh}
-use Rattle.c_lang.specs.declared.stmt.Stmt.{Stmt, out-Stmt, roll-Stmt, fold-Stmt, fold_out-Stmt, map-Stmt, out-roll-Stmt}
-use Rattle.c_lang.specs.declared.stmt.Stmt.TheOpen.{Stmt-F}
-use Rattle.c_lang.specs.declared.stmt.Stmt.TheOpen as one
-use Rattle.c_lang.specs.declared.stmt.Stmt.TheVariants as stmt
-use Rattle.c_lang.specs.declared.program.Func.{Func}
 use Rattle.c_lang.specs.declared.program.Program.{Program}
 use Rattle.c_lang.proofs.TreeLemmas.{expression_of-expr_of}
-use Rattle.merge_core.proofs.Renaming.{under, renamed, renamed_dest, stmt_under}
-use Rattle.merge_core.proofs.MergedStatements.{now_name, choice_name, result_name, transform_name, is_nil, is_set, swap_body, point_body, hand_on, hand, wrapper_body, merged_layer, merged_stmt, merged_item}
-use Rattle.merge_core.proofs.EvaluationRenamed.{renamed_value, renamed_answer, number-renamed, Carries, ev-renamed, ev-Var, ev-Lit, ev-test}
-use Rattle.merge_core.proofs.Relation.{Naming, Merging, is_there, flag, transform_function, settled_by, settled, SameState, SameFrame, Below, R, Follows}
+use Rattle.merge_core.proofs.Renaming.{under, renamed, renamed_dest}
+use Rattle.merge_core.proofs.MergedStatements.{now_name}
+use Rattle.merge_core.proofs.EvaluationRenamed.{renamed_value, renamed_answer, Carries, ev-renamed}
+use Rattle.merge_core.proofs.Relation.{Naming, Merging, is_there, settled_by, settled, SameState, SameFrame, Below, R, Follows}
 
 module _ (M : Merging) where
   abbrev W : World

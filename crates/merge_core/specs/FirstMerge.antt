@@ -1,6 +1,5 @@
 -- The merged program of two sources of the first form and a transformer, by the parts of its layout.
-use Rattle.std.specs.Prelude.{◌≡◌, ℕ, ℤ, ◌+◌, List, [], ◌∷◌, Option, None, true, length, ◌↔◌}
-use Rattle.c_lang.specs.Names.{Bytes}
+use Rattle.std.specs.Prelude.{◌≡◌, ℕ, ℤ, ◌+◌, List, [], ◌∷◌, None, true, length, ◌↔◌}
 use Rattle.c_lang.specs.Sources.{Source, Setter, Action, IsSource, IsSetter, FitsNumber, at, first_line, source_program, setter_program}
 use Rattle.c_lang.specs.Sources as source
 use Rattle.c_lang.specs.Layout.{Layout, IsLayout, Expansion, Piece, Main, layout_program}

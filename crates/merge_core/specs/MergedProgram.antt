@@ -1,5 +1,5 @@
 -- The merged program of three programs of the first form, from the programs themselves.
-use Rattle.std.specs.Prelude.{⊤, ◌≡◌, ℕ, ◌<◌, ℤ, pos, true, false, List, [], ◌∷◌, map, length, slice_get, unwrap_or, Some, All, codes}
+use Rattle.std.specs.Prelude.{⊤, ◌≡◌, ℕ, ◌<◌, ℤ, pos, true, false, List, [], ◌∷◌, map, length, slice_get, unwrap_or, All, codes}
 use Rattle.c_lang.specs.Names.{Bytes}
 use Rattle.c_lang.specs.Sources.{at, global, function, return_zero}
 use Rattle.c_lang.specs.Layout.{both_name, expansion, prototype, wrapper_body, returned_call}

@@ -127,7 +127,13 @@ fn merged_prototypes(
     Ok(Items::from_vec(all))
 }
 
-fn function(alloc: Global, name: &[u8], gives: bool, body: Items<Stmt>, pos: Pos) -> Result<Func, AllocError>
+fn function(
+    alloc: Global,
+    name: &[u8],
+    gives: bool,
+    body: Items<Stmt>,
+    pos: Pos,
+) -> Result<Func, AllocError>
     ensures { IfOk result (λ func. func ≡ function name.now gives body pos) }
 {
     let name = Name::new(alloc, name)?;
@@ -183,4 +189,3 @@ fn merged_functions(
     let all = vec![in alloc; old_main, new_main, any_main, transform, main]?;
     Ok(Items::from_vec(all))
 }
-

@@ -1,5 +1,5 @@
 -- The end of an `if` whose `else` has a statement.
-use Rattle.std.proofs.Common.{◌≡◌, ℕ, false, List, [], ◌∷◌, ◌++◌, map, length, ◌==◌, refl, codes}
+use Rattle.std.proofs.Common.{◌≡◌, false, List, [], ◌∷◌, ◌++◌, map, length, ◌==◌, refl, codes}
 use Rattle.c_lang.specs.Names.{Bytes}
 use Rattle.c_lang.specs.Trees.{statement_of, statements}
 use Rattle.c_lang.specs.declared.stmt.Stmt.{Stmt}

@@ -13,7 +13,7 @@ use Rattle.c_lang.specs.declared.program.GlobalVar.{GlobalVar}
 use Rattle.c_lang.specs.declared.program.Proto.{Proto}
 use Rattle.c_lang.specs.declared.program.Func.{Func}
 use Rattle.c_lang.specs.declared.program.Program.{Program}
-use Rattle.merge_printer.specs.Statements.{position_text, declaration, ints, statements_text}
+use Rattle.merge_printer.specs.Statements.{position_text, declaration, statements_text}
 
 abbrev pub without_zeros : List ℤ → List ℤ
 without_zeros [] = []

@@ -1,6 +1,6 @@
 -- The text of statements in a merged program: each on a line of its own, behind a line that gives
 -- its position, without indentation.
-use Rattle.std.specs.Prelude.{ℕ, zero, suc, List, [], ◌∷◌, ◌++◌, Option, Some, None, codes}
+use Rattle.std.specs.Prelude.{ℕ, zero, suc, List, [], ◌++◌, Option, Some, None, codes}
 use Rattle.std.specs.Fmt.{decimal}
 use Rattle.c_lang.specs.Names.{Bytes}
 use Rattle.c_lang.specs.Units.{word}

@@ -8,8 +8,8 @@ ghost use Rattle.merge_printer.specs.Statements.{position_text};
 use crate::declarations::put_declaration;
 use crate::statements::put_statements;
 use crate::text::{put_length, put_number, put_position, put_signed, put_text};
-use itoa::Buffer;
 use c_lang::{Func, GlobalVar, Kind, Name, Pos, Program, Proto, Shape};
+use itoa::Buffer;
 use std::alloc::{AllocError, Global};
 
 /// The text of a merged program: the include line, the prototypes, the globals and the functions,
@@ -148,7 +148,14 @@ fn put_pointer_value(out: &mut Vec<u8>, function: &Option<Name>) -> Result<(), A
 fn put_head_start(out: &mut Vec<u8>, gives: bool, name: &Name) -> Result<(), AllocError>
     ensures { OnOk result (out.new.items ≡ out.old.items ++ spec.head_start gives name.now) }
 {
-    put_text(out, if gives { b"int ".as_slice() } else { b"void ".as_slice() })?;
+    put_text(
+        out,
+        if gives {
+            b"int ".as_slice()
+        } else {
+            b"void ".as_slice()
+        },
+    )?;
     put_text(out, name.as_bytes())
 }
 
@@ -236,7 +243,13 @@ fn put_head(
 fn put_func(out: &mut Vec<u8>, func: &Func) -> Result<(), AllocError>
     ensures { OnOk result (out.new.items ≡ out.old.items ++ spec.func_text func.now) }
 {
-    put_head(out, func.pos, func.gives, &func.name, func.params.as_slice())?;
+    put_head(
+        out,
+        func.pos,
+        func.gives,
+        &func.name,
+        func.params.as_slice(),
+    )?;
     put_statements(out, func.body.as_slice())?;
     put_text(out, b"}\n")
 }
