@@ -1,0 +1,8 @@
+use Rattle.dsu.proofs.HeadlineLemmas.{writes-merged-text, merges-what-is-accepted}
+use Rattle.dsu.proofs.top_call.dsu.Goals as goal
+
+pub returns-clause-writes : goal.returns-clause-writes
+returns-clause-writes g c = writes-merged-text _ _ _ c.answer_words.ensures.outcome
+
+pub returns-clause-merges : goal.returns-clause-merges
+returns-clause-merges g c = merges-what-is-accepted _ _ _ c.answer_words.ensures.outcome

@@ -1,0 +1,34 @@
+-- Conditions in their order, each with its refusal.
+use Rattle.std.specs.Prelude.{⊤, ◌≡◌, ℕ, None, Result, MatchResult, List, [], ◌∷◌, ◌⊎◌}
+use Rattle.c_lang.specs.declared.unit.Unit.{Unit}
+use Rattle.c_lang.specs.declared.refusal.Refusal.{Refusal}
+use Rattle.c_lang.specs.declared.refusal.Fail.{Fail}
+use Rattle.c_lang.specs.declared.refusal.Fail.TheVariants as fail
+
+-- a refusal at the first line of a unit
+abbrev pub refusal_at : ℕ → Unit → Refusal
+refusal_at number unit = record { number = number; pos = record { unit = unit; line = 1 }; name = None }
+
+-- what an input must meet, and the refusal of one that doesn't
+pub record Condition : Type 1 where
+  pub refusal : Refusal
+  pub Holds : Type 0
+
+abbrev pub AllHold : List Condition → Type 0
+AllHold [] = ⊤
+AllHold (condition ∷ conditions) = condition.Holds × AllHold conditions
+
+-- It is the refusal of the first condition that doesn't hold.
+abbrev pub IsFirstRefusal : List Condition → Refusal → Type 0
+IsFirstRefusal [] refusal = ⊥
+IsFirstRefusal (condition ∷ conditions) refusal =
+    ((condition.Holds → ⊥) × (refusal ≡ condition.refusal)) ⊎ (condition.Holds × IsFirstRefusal conditions refusal)
+
+-- All hold, or the answer is that refusal.
+abbrev pub Checks : List Condition → Result ⊤ Refusal → Type 0
+Checks conditions result = MatchResult result (λ _. AllHold conditions) (IsFirstRefusal conditions)
+
+-- Want of memory, or that refusal.
+abbrev pub IsRefusedBy : List Condition → Fail → Type 0
+IsRefusedBy conditions fail.NoMemory = ⊤
+IsRefusedBy conditions (fail.Refused refusal) = IsFirstRefusal conditions refusal

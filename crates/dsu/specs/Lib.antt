@@ -1,0 +1,12 @@
+pub mod Words
+pub mod Replies
+pub mod Held
+pub mod Conditions
+pub mod FirstForm
+pub mod MergedText
+pub mod Merge
+pub mod Around
+pub mod Outcome
+pub mod Seen
+pub mod SeenPrograms
+pub mod Headline

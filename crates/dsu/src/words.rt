@@ -1,0 +1,78 @@
+//! The words after the program's name.
+
+ghost use Rattle.std.specs.Prelude.{◌≡◌, ℕ, IfOk, List, map, option_map, string_bytes, nat_eq};
+ghost use Rattle.std.specs.List.{list_any};
+ghost use Rattle.dsu.specs.Words as spec;
+ghost use Rattle.dsu.specs.Seen.{seen, seen_world};
+
+/// The names of the files of an update.
+#[derive(Clone, Copy, Debug)]
+pub(crate) struct World<'a> {
+    pub old: &'a str,
+    pub new: &'a str,
+    pub xform: &'a str,
+}
+
+/// What the words ask for.
+#[derive(Clone, Copy, Debug)]
+pub(crate) enum Request<'a> {
+    /// The merged text.
+    Merge(World<'a>),
+}
+
+/// The request of the words, or `None` where they ask for nothing. It takes no memory.
+pub(crate) fn read_request<'a>(words: &'a [String]) -> Option<Request<'a>>
+    ensures { option_map seen result ≡ spec.request_of (map string_bytes words.entry.now) }
+{
+    let [command, rest @ ..] = words else {
+        return None;
+    };
+    match command.as_str() {
+        "merge" => read_merge(rest),
+        _ => None,
+    }
+}
+
+fn read_merge<'a>(words: &'a [String]) -> Option<Request<'a>>
+    ensures { option_map seen result ≡ spec.merge_of (map string_bytes words.entry.now) }
+{
+    match read_world(words) {
+        Some(world) => Some(Request::Merge(world)),
+        None => None,
+    }
+}
+
+#[tactic(auto, using(crate::proofs::WordLemmas::options))]
+fn read_world<'a>(words: &'a [String]) -> Option<World<'a>>
+    ensures { option_map seen_world result ≡ spec.world_of (map string_bytes words.entry.now) }
+{
+    if has_option(words) {
+        return None;
+    }
+    three_files(words)
+}
+
+fn three_files<'a>(files: &'a [String]) -> Option<World<'a>>
+    ensures { option_map seen_world result ≡ spec.three_files (map string_bytes files.entry.now) }
+{
+    match files {
+        [old, new, xform] => Some(World {
+            old: old.as_str(),
+            new: new.as_str(),
+            xform: xform.as_str(),
+        }),
+        _ => None,
+    }
+}
+
+fn has_option(words: &[String]) -> bool
+    ensures { result ≡ list_any (λ word. spec.is_option (string_bytes word)) words.now }
+{
+    words.iter().any(|word| is_option(word.as_str()))
+}
+
+fn is_option(word: &str) -> bool
+    ensures { result ≡ spec.is_option word.now }
+{
+    word.as_bytes().starts_with(b"-")
+}
