@@ -156,6 +156,147 @@ mod tests {
         assert!(rt; parse_lines(rt.alloc(), Unit::New, TWO_POINTS).is_ok());
     }
 
+    const MERGED: &[u8] = b"#include \"dsu.h\"\n\
+#line 3 \"old\"\n\
+int dsu_old_main(void);\n\
+#line 3 \"new\"\n\
+int dsu_new_main(void);\n\
+#line 3 \"old\"\n\
+int dsu_any_main(void);\n\
+#line 1 \"xform\"\n\
+void dsu_xform_dsu_transform(void);\n\
+#line 3 \"old\"\n\
+int main(void);\n\
+#line 1 \"merge\"\n\
+int dsu_now = 0;\n\
+#line 2 \"old\"\n\
+int dsu_both_n = 1;\n\
+#line 3 \"old\"\n\
+int dsu_old_main(void) {\n\
+#line 4 \"old\"\n\
+client_out(dsu_both_n);\n\
+#line 5 \"old\"\n\
+if (dsu_now == 0) {\n\
+#line 5 \"old\"\n\
+int dsu_c = dsu_choice(1);\n\
+#line 5 \"old\"\n\
+if (dsu_c != 0) {\n\
+#line 5 \"old\"\n\
+dsu_now = 1;\n\
+#line 5 \"old\"\n\
+dsu_xform_dsu_transform();\n\
+}\n\
+}\n\
+#line 6 \"old\"\n\
+client_out(dsu_both_n);\n\
+#line 7 \"old\"\n\
+return 0;\n\
+}\n\
+#line 3 \"new\"\n\
+int dsu_new_main(void) {\n\
+#line 4 \"new\"\n\
+client_out(dsu_both_n);\n\
+#line 5 \"new\"\n\
+;\n\
+#line 6 \"new\"\n\
+client_out(dsu_both_n);\n\
+#line 7 \"new\"\n\
+return 0;\n\
+}\n\
+#line 3 \"old\"\n\
+int dsu_any_main(void) {\n\
+#line 3 \"old\"\n\
+if (dsu_now != 0) {\n\
+#line 3 \"old\"\n\
+int dsu_r = dsu_new_main();\n\
+#line 3 \"old\"\n\
+return dsu_r;\n\
+} else {\n\
+#line 3 \"old\"\n\
+int dsu_r = dsu_old_main();\n\
+#line 3 \"old\"\n\
+return dsu_r;\n\
+}\n\
+}\n\
+#line 1 \"xform\"\n\
+void dsu_xform_dsu_transform(void) {\n\
+#line 2 \"xform\"\n\
+dsu_both_n = 7;\n\
+}\n\
+#line 3 \"old\"\n\
+int main(void) {\n\
+#line 3 \"old\"\n\
+int dsu_r = dsu_old_main();\n\
+#line 3 \"old\"\n\
+return dsu_r;\n\
+}\n";
+
+    fn stands_at(pos: Pos, unit: Unit, line: u32) -> bool {
+        pos.unit == unit && pos.line == line
+    }
+
+    #[test]
+    fn merged_text_has_its_declarations(rt: HostRuntime) {
+        match parse_lines(rt.alloc(), Unit::Merge, MERGED) {
+            Ok(program) => {
+                match program.globals.as_slice() {
+                    [flag, number] => {
+                        assert!(rt; stands_at(flag.pos, Unit::Merge, 1));
+                        assert!(rt; stands_at(number.pos, Unit::Old, 2));
+                        assert!(rt; number.name.as_bytes() == b"dsu_both_n".as_slice());
+                    }
+                    _ => panic!(rt; "not two globals"),
+                }
+                match program.protos.as_slice() {
+                    [_, new, _, transform, _] => {
+                        assert!(rt; stands_at(new.pos, Unit::New, 3));
+                        assert!(rt; stands_at(transform.pos, Unit::Xform, 1));
+                        assert!(rt; !transform.gives);
+                    }
+                    _ => panic!(rt; "not five prototypes"),
+                }
+            }
+            Err(_) => panic!(rt; "refused"),
+        }
+    }
+
+    #[test]
+    fn merged_text_has_its_statements(rt: HostRuntime) {
+        match parse_lines(rt.alloc(), Unit::Merge, MERGED) {
+            Ok(program) => match program.funcs.as_slice() {
+                [old, new, any, transform, main] => {
+                    match old.body.as_slice() {
+                        [
+                            Stmt::Output { .. },
+                            Stmt::If { pos, yes, no, .. },
+                            Stmt::Output { .. },
+                            Stmt::Return { pos: last, .. },
+                        ] => {
+                            assert!(rt; stands_at(*pos, Unit::Old, 5));
+                            assert_eq!(rt; yes.len(), 2);
+                            assert!(rt; no.is_empty());
+                            assert!(rt; stands_at(*last, Unit::Old, 7));
+                        }
+                        _ => panic!(rt; "not the old version's statements"),
+                    }
+                    match new.body.as_slice() {
+                        [_, Stmt::Skip { pos }, ..] => assert!(rt; stands_at(*pos, Unit::New, 5)),
+                        _ => panic!(rt; "the new version's point does something"),
+                    }
+                    match transform.body.as_slice() {
+                        [Stmt::Set { pos, .. }] => assert!(rt; stands_at(*pos, Unit::Xform, 2)),
+                        _ => panic!(rt; "not one assignment"),
+                    }
+                    assert!(rt; stands_at(any.pos, Unit::Old, 3));
+                    assert_eq!(rt; any.body.len(), 1);
+                    assert_eq!(rt; main.body.len(), 2);
+                }
+                _ => panic!(rt; "not five functions"),
+            },
+            Err(_) => panic!(rt; "refused"),
+        }
+    }
+
     #[test]
     fn other_forms_are_refused(rt: HostRuntime) {
         let texts: [&[u8]; 8] = [
