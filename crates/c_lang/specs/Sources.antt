@@ -1,7 +1,7 @@
 -- The first form of a source: one number that two versions share, and a `main` that shows it, sets
 -- it and asks for updates; and a transformer that sets it. Each is given by its parts, and from the
 -- parts come its lines and its program.
-use Rattle.std.specs.Prelude.{⊤, ◌≡◌, ℕ, pos, ◌+◌, ◌≤◌, Bool, true, false, not, ◌&&◌, bytes_eq, if◌then◌else◌, List, [], ◌∷◌, ◌++◌, map, All, count_by, Some, codes}
+use Rattle.std.specs.Prelude.{⊤, ◌≡◌, ℕ, pos, ◌+◌, ◌≤◌, Bool, true, false, not, ◌&&◌, bytes_eq, if◌then◌else◌, List, [], ◌∷◌, ◌++◌, length, map, All, count_by, Some, codes}
 use Rattle.std.specs.Fmt.{decimal}
 use Rattle.c_lang.specs.Names.{Bytes, is_word, is_keyword, is_reserved}
 use Rattle.c_lang.specs.declared.unit.Unit.{Unit}
@@ -138,6 +138,8 @@ pub record IsSource (source : Source) : Type 0 where
   pub name : is_shared_name source.name ≡ true
   pub value : FitsNumber source.value
   pub actions : All FitsAction source.actions
+  -- `#line` can give each line
+  pub lines : FitsNumber (length (source_lines source))
 
 -- the old source has one point at most
 abbrev pub HasOnePoint : Source → Type 0
@@ -146,3 +148,4 @@ HasOnePoint source = count_by is_point source.actions ≤ 1
 pub record IsSetter (setter : Setter) : Type 0 where
   pub name : is_shared_name setter.name ≡ true
   pub values : All FitsNumber setter.values
+  pub lines : FitsNumber (length (setter_lines setter))

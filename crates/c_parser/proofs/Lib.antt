@@ -4,6 +4,7 @@ pub mod Many
 pub mod Tokens
 pub mod SourceLaws
 pub mod SourceIs
+pub mod Counted
 pub mod LayoutLaws
 pub mod LayoutIs
 pub mod LayoutRead

@@ -1,5 +1,5 @@
 -- A whole source, and a whole transformer: what is read has these lines, and these lines are read.
-use Rattle.std.proofs.Common.{◌≡◌, ℕ, Bool, true, false, cond, List, [], ◌∷◌, ◌++◌, map, Option, Some, None, refl, sym, ap, subst, ◌∙◌, append_assoc, inl, inr, arith}
+use Rattle.std.proofs.Common.{◌≡◌, ℕ, Bool, true, false, cond, List, [], ◌∷◌, ◌++◌, map, length, Option, Some, None, refl, sym, ap, subst, ◌∙◌, append_assoc, inl, inr, arith}
 use Rattle.std.specs.Prelude.{◌⊎◌, All, codes, bytes_eq}
 use Rattle.std.specs.List.{flat_map}
 use Rattle.std.specs.Fmt.{decimal}
@@ -112,10 +112,16 @@ source_again s last fits close =
     (behind_same last_text last)
     close
 
+-- what is read of a source, but for the number of its lines
+pub record HasParts (s : Source) : Type 0 where
+  pub name : is_shared_name s.name ≡ true
+  pub value : FitsNumber s.value
+  pub actions : All FitsAction s.actions
+
 pub record IsSourceRead (s : Source) (bytes : Bytes) : Type 0 where
   pub last : Bytes
   pub close : is_close last ≡ true
-  pub parts : IsSource s
+  pub parts : HasParts s
   pub text : front s ++ last ≡ bytes
 
 along : (a b c d last z1 z2 z3 bytes : Bytes) → d ++ last ≡ z3 → c ++ z3 ≡ z2 → b ++ z2 ≡ z1 → a ++ z1 ≡ bytes → (a ++ (b ++ (c ++ d))) ++ last ≡ bytes
@@ -260,6 +266,7 @@ settings_again set value values last ok fits close =
 pub record IsSetterAgain (s : Setter) (bytes : Bytes) : Type 0 where
   pub read : Setter
   pub is_read : setter bytes ≡ Some read
+  pub as_long : length read.values ≡ length s.values
   pub same : setter_program read ≡ setter_program s
 
 setter_by : (bytes body : Bytes) (s : Setter) → behind (ended (codes "void dsu_transform(void) {")) bytes ≡ Some body → settings body ≡ Some s → setter bytes ≡ Some s
@@ -275,22 +282,27 @@ head_of_setter = ended (codes "void dsu_transform(void) {")
 again_by : (set : Bytes) (values : List ℕ) (last : Bytes) → is_shared_name set ≡ true → All FitsNumber values → is_close last ≡ true
     → IsSetterAgain (record { name = set; values = values }) (head_of_setter ++ (flat_map (λ v. ended (set_line set v)) values ++ last))
 unfolding head_of_setter
-again_by set [] last ok fits close = record { read = record { name = codes "n"; values = [] }; is_read = setter_by (ended (codes "void dsu_transform(void) {") ++ last) last _ (behind_same (ended (codes "void dsu_transform(void) {")) last) (no_settings last close); same = refl }
+again_by set [] last ok fits close = record { read = record { name = codes "n"; values = [] }; is_read = setter_by (ended (codes "void dsu_transform(void) {") ++ last) last _ (behind_same (ended (codes "void dsu_transform(void) {")) last) (no_settings last close); as_long = refl; same = refl }
 again_by set (value ∷ values) last ok fits close =
     let body = flat_map (λ v. ended (set_line set v)) (value ∷ values) ++ last in
-    record { read = record { name = set; values = value ∷ values }; is_read = setter_by (ended (codes "void dsu_transform(void) {") ++ body) body _ (behind_same (ended (codes "void dsu_transform(void) {")) body) (settings_again set value values last ok fits close); same = refl }
+    record { read = record { name = set; values = value ∷ values }; is_read = setter_by (ended (codes "void dsu_transform(void) {") ++ body) body _ (behind_same (ended (codes "void dsu_transform(void) {")) body) (settings_again set value values last ok fits close); as_long = refl; same = refl }
 
 pub setter_again : (s : Setter) (bytes : Bytes) → IsSetter s → HasClose (setter_front s) bytes → IsSetterAgain s bytes
 unfolding setter_front head_of_setter
 setter_again s bytes fits h =
     subst (IsSetterAgain s) (sym (append_assoc (ended (codes "void dsu_transform(void) {")) (flat_map (λ v. ended (set_line s.name v)) s.values) h.last) ∙ h.text) (again_by s.name s.values h.last fits.name fits.values h.close)
 
+-- what is read of a transformer, but for the number of its lines
+pub record SetsNumbers (s : Setter) : Type 0 where
+  pub name : is_shared_name s.name ≡ true
+  pub values : All FitsNumber s.values
+
 pub record IsSetterRead (s : Setter) (bytes : Bytes) : Type 0 where
-  pub parts : IsSetter s
+  pub parts : SetsNumbers s
   pub closed : HasClose (setter_front s) bytes
 
 IsSettings : Setter → Bytes → Type 0
-IsSettings s body = IsSetter s × HasClose (flat_map (λ v. ended (set_line s.name v)) s.values) body
+IsSettings s body = SetsNumbers s × HasClose (flat_map (λ v. ended (set_line s.name v)) s.values) body
 
 settings_is : (s : Setter) (body : Bytes) → settings body ≡ Some s → IsSettings s body
 unfolding IsSettings
@@ -299,7 +311,7 @@ settings_is s body e = by_name (name body) refl e
     by_name : (o : Option (Bytes × Bytes)) → name body ≡ o → settings_by o body ≡ Some s → IsSettings s body
     by_name None n f =
         elim (chosen (is_close body) (Some (record { name = codes "n"; values = [] })) None (Some s) f) [
-          | inl h ↦ subst (λ (z : Setter). IsSetter z × HasClose (flat_map (λ v. ended (set_line z.name v)) z.values) body) (some_is (record { name = codes "n"; values = [] }) s h.1)
+          | inl h ↦ subst (λ (z : Setter). SetsNumbers z × HasClose (flat_map (λ v. ended (set_line z.name v)) z.values) body) (some_is (record { name = codes "n"; values = [] }) s h.1)
               (record { name = refl; values = All-nil FitsNumber }, record { last = body; close = h.0; text = refl })
           | inr h ↦ absurd (let never = h.1 in cc)
         ]
@@ -308,7 +320,7 @@ settings_is s body e = by_name (name body) refl e
         let named = name_is body x.1 x.0 n in
         let m = read_many (setting x.0) (λ v. ended (set_line x.0 v)) FitsNumber (exact_setting x.0) body in
         elim (chosen (is_close read.1) (Some (record { name = x.0; values = read.0 })) None (Some s) f) [
-          | inl h ↦ subst (λ (z : Setter). IsSetter z × HasClose (flat_map (λ v. ended (set_line z.name v)) z.values) body) (some_is (record { name = x.0; values = read.0 }) s h.1)
+          | inl h ↦ subst (λ (z : Setter). SetsNumbers z × HasClose (flat_map (λ v. ended (set_line z.name v)) z.values) body) (some_is (record { name = x.0; values = read.0 }) s h.1)
               (record { name = named.0; values = m.0 }, record { last = read.1; close = h.0; text = m.1 })
           | inr h ↦ absurd (let never = h.1 in cc)
         ]

@@ -13,8 +13,8 @@ use sqlite_items::{Boxed, Items};
 use std::alloc::{AllocError, Global};
 
 /// A comparison of a name with 0.
-fn zero_test(alloc: Global, op: Op, name: &[u8]) -> Result<Expr, AllocError>
-    ensures { IfOk result (λ e. e ≡ Bin op (Var name.now) (Lit (pos 0))) }
+fn comparison_with_zero(alloc: Global, op: Op, name: &[u8]) -> Result<Expr, AllocError>
+    ensures { IfOk result (λ comparison. comparison ≡ Bin op (Var name.now) (Lit (pos 0))) }
 {
     let name = Name::new(alloc, name)?;
     let left = Boxed::new(alloc, Expr::Var(name))?;
@@ -43,33 +43,34 @@ fn update_statements(alloc: Global, flag: Pos, call: Pos) -> Result<Items<Stmt>,
 }
 
 /// Unless an update happened, the client chooses whether it happens now.
-fn expansion(alloc: Global, e: Expansion, k: u32) -> Result<Stmt, AllocError>
-    ensures { IfOk result (λ statement. statement ≡ layout.expansion (spec.expansion_view e) k) }
+fn expansion(alloc: Global, point: Expansion, k: u32) -> Result<Stmt, AllocError>
+    ensures { IfOk result (λ statement. statement ≡ layout.expansion (spec.expansion_view point) k) }
 {
     let answer = Name::new(alloc, b"dsu_c")?;
     let choice = Stmt::Choice {
-        pos: e.choice,
+        pos: point.choice,
         dest: Dest::Fresh(Kind::Int, answer),
         k,
     };
-    let update = update_statements(alloc, e.flag, e.call)?;
-    let cond = zero_test(alloc, Op::Ne, b"dsu_c")?;
+    let update = update_statements(alloc, point.flag, point.call)?;
+    let cond = comparison_with_zero(alloc, Op::Ne, b"dsu_c")?;
     let test = Stmt::If {
-        pos: e.test,
+        pos: point.test,
         cond,
         yes: update,
         no: Items::new(alloc),
     };
-    let cond = zero_test(alloc, Op::Eq, b"dsu_now")?;
+    let cond = comparison_with_zero(alloc, Op::Eq, b"dsu_now")?;
     let yes = vec![in alloc; choice, test]?;
     Ok(Stmt::If {
-        pos: e.unless,
+        pos: point.unless,
         cond,
         yes: Items::from_vec(yes),
         no: Items::new(alloc),
     })
 }
 
+/// An assignment of a number to the shared one.
 fn set_statement(alloc: Global, name: &[u8], set: (Pos, u32)) -> Result<Stmt, AllocError>
     requires { spec.IsSet set }
     ensures { IfOk result (λ statement. statement ≡ spec.set_statement name.now set) }
@@ -97,7 +98,7 @@ fn statement(alloc: Global, name: &[u8], piece: Piece) -> Result<Stmt, AllocErro
         }
         Piece::Sets(pos, value) => set_statement(alloc, name, (pos, value)),
         Piece::Skips(pos) => Ok(Stmt::Skip { pos }),
-        Piece::Asks(e, k) => expansion(alloc, e, k),
+        Piece::Asks(point, k) => expansion(alloc, point, k),
     }
 }
 
@@ -157,7 +158,7 @@ fn returned_call(
 fn wrapper_body(alloc: Global, wrapper: Wrapper) -> Result<Items<Stmt>, AllocError>
     ensures { IfOk result (λ statements. statements ≡ layout.wrapper_body (spec.wrapper_view wrapper)) }
 {
-    let cond = zero_test(alloc, Op::Ne, b"dsu_now")?;
+    let cond = comparison_with_zero(alloc, Op::Ne, b"dsu_now")?;
     let yes = returned_call(alloc, wrapper.new_call, wrapper.new_return, b"dsu_new_main")?;
     let no = returned_call(alloc, wrapper.old_call, wrapper.old_return, b"dsu_old_main")?;
     let test = Stmt::If {

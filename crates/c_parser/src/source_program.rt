@@ -1,6 +1,6 @@
 //! The program of a source of the first form, and of a transformer.
 
-ghost use Rattle.std.specs.Prelude.{◌≡◌, ◌+◌, ◌∷◌, [], map, All, IfOk};
+ghost use Rattle.std.specs.Prelude.{◌≡◌, ◌+◌, ◌≤◌, ◌∷◌, [], length, map, All, IfOk};
 ghost use Rattle.c_lang.specs.Sources as sources;
 ghost use Rattle.c_lang.specs.Sources.{FitsNumber, FitsAction, IsSource, IsSetter};
 ghost use Rattle.c_parser.specs.SourceReading as spec;
@@ -10,16 +10,6 @@ use crate::source::{Action, Setter, Source};
 use c_lang::{Pos, Program, Stmt, Unit};
 use sqlite_items::Items;
 use std::alloc::{AllocError, Global};
-
-/// The line below. A text that has more lines than a `u32` counts has no place in memory.
-fn below(line: u32) -> Result<u32, AllocError>
-    ensures { IfOk result (λ n. n ≡ line + 1) }
-{
-    match line.checked_add(1) {
-        Some(next) => Ok(next),
-        None => Err(AllocError),
-    }
-}
 
 fn statement(alloc: Global, shared: &[u8], pos: Pos, action: Action) -> Result<Stmt, AllocError>
     requires { FitsAction (spec.action_of action) }
@@ -39,14 +29,15 @@ fn main_body(
     first: u32,
     actions: &[Action],
 ) -> Result<Items<Stmt>, AllocError>
-    requires { All (λ a. FitsAction (spec.action_of a)) actions.now }
+    requires actions { All (λ a. FitsAction (spec.action_of a)) actions.now }
+    requires lines { first + length actions.now ≤ 2147483647 }
     ensures { IfOk result (λ body. body ≡ sources.main_body unit shared.now first (map spec.action_of actions.now)) }
 {
     let mut statements = Items::new(alloc);
     let mut line = first;
     for action in actions {
         statements.push(statement(alloc, shared, Pos { unit, line }, *action)?)?;
-        line = below(line)?;
+        line += 1;
     }
     statements.push(return_zero(Pos { unit, line }))?;
     Ok(statements)
@@ -58,7 +49,8 @@ fn setter_body(
     first: u32,
     values: &[u32],
 ) -> Result<Items<Stmt>, AllocError>
-    requires { All FitsNumber values.now }
+    requires values { All FitsNumber values.now }
+    requires lines { first + length values.now ≤ 2147483647 }
     ensures { IfOk result (λ body. body ≡ sources.setter_body set.now first values.now) }
 {
     let mut statements = Items::new(alloc);
@@ -69,7 +61,7 @@ fn setter_body(
             line,
         };
         statements.push(set_statement(alloc, set, pos, *value)?)?;
-        line = below(line)?;
+        line += 1;
     }
     Ok(statements)
 }
@@ -78,6 +70,7 @@ fn setter_body(
 pub fn source_program(alloc: Global, unit: Unit, source: &Source) -> Result<Program, AllocError>
     requires value { FitsNumber source.now.value }
     requires actions { All (λ a. FitsAction (spec.action_of a)) source.now.actions.items }
+    requires lines { length source.now.actions.items ≤ 2147483643 }
     ensures { IfOk result (λ p. p ≡ sources.source_program unit (spec.source_view source.now)) }
 {
     let line = if source.includes { 2 } else { 1 };
@@ -102,7 +95,8 @@ pub fn source_program(alloc: Global, unit: Unit, source: &Source) -> Result<Prog
 
 /// The program of a transformer.
 pub fn setter_program(alloc: Global, setter: &Setter) -> Result<Program, AllocError>
-    requires { All FitsNumber setter.now.values.items }
+    requires values { All FitsNumber setter.now.values.items }
+    requires lines { length setter.now.values.items ≤ 2147483645 }
     ensures { IfOk result (λ p. p ≡ sources.setter_program (spec.setter_view setter.now)) }
 {
     let body = setter_body(alloc, setter.name, 2, &setter.values)?;
