@@ -17,7 +17,6 @@ use Rattle.merge_core.specs.FirstMerge.{AreFirst}
 use Rattle.dsu.specs.Conditions.{AllHold}
 use Rattle.dsu.specs.FirstForm.{number_name, AssignsIn, Assigns, AssignsOnly, program_conditions}
 use Rattle.dsu.specs.Merge.{Texts, size_conditions}
-use Rattle.dsu.proofs.LineCounts.{lines-fit, setter-lines-fit}
 
 Some-injective : {X : Type 0} (x y : X) → Some x ≡ Some y → x ≡ y
 Some-injective x y is = cc
@@ -43,7 +42,7 @@ renamed : (name given : Bytes) (values : List ℕ) → is_shared_name name ≡ t
     → AssignsOnly (Some name) (setter_program (setter_of given values))
     → (other : Setter) × IsSetter other × (other.name ≡ name) × (other.values ≡ values) × (setter_program other ≡ setter_program (setter_of given values))
 renamed name given [] fine parts only =
-    (setter_of name [], record { name = fine; values = parts.values }, refl, refl, refl)
+    (setter_of name [], record { name = fine; values = parts.values; lines = omega arith }, refl, refl, refl)
 renamed name given (value ∷ values) fine parts only =
     (setter_of given (value ∷ values), parts, Some-injective given name (assigned_name (Some name) _ given value (only 0 no_func (omega arith) 0 no_statement (omega arith))), refl, refl)
 
@@ -66,9 +65,6 @@ are-first texts first second xform old new transformer (old_size, (new_size, (xf
       is_setter = setter.1;
       same_name = name_is;
       sets_it = setter.2;
-      old_lines = lines-fit texts.old old.source old.text old_size;
-      new_lines = lines-fit texts.new new.source new.text new_size;
-      xform_lines = subst (λ (values : List ℕ). FitsNumber (length values + 1)) (sym setter.3) (setter-lines-fit texts.xform transformer.setter transformer.text xform_size);
       first_program = old.is_program;
       second_program = new.is_program;
       xform_program = setter.4 ∙ transformer.is_program;

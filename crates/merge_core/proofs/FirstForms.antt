@@ -17,6 +17,7 @@ use Rattle.c_lang.specs.declared.program.Program.{Program}
 use Rattle.merge_core.specs.FirstMerge.{AreFirst, IsMergeOf, ShowsTheSame, merged_piece, merged_pieces, merged_main, merged_sets, merged_layout, last_line, main_at}
 use Rattle.merge_core.specs.MergedProgram.{HasFirstForm, IsWhole, IsFirstLevel, IsFirstStatement, merged_level, merged_statement, merged_point, merged_program, wrapper_statements, shared_of}
 use Rattle.merge_core.proofs.FirstWorld.{FirstParts}
+use Rattle.merge_core.proofs.LineCounts.{source-length, setter-length}
 use Rattle.merge_core.proofs.FirstTheorem.{shows_the_same}
 
 -- ---- each statement
@@ -157,12 +158,10 @@ sets-are line (value ∷ values) above below fits =
     ((tt, above, omega arith), All-head FitsNumber value values fits)
     (sets-are (line + 1) values (omega arith) (omega arith) (All-tail FitsNumber value values fits))
 
-layout-is : (old new : Source) (setter : Setter) → IsSource old → IsSource new → IsSetter setter
-    → last_line (first_line old.includes + 2) old.actions ≤ 2147483647 → last_line (first_line new.includes + 2) new.actions ≤ 2147483647
-    → length setter.values + 1 ≤ 2147483647 → IsLayout (merged_layout old new setter)
-layout-is old new setter is_old is_new is_setter old_lines new_lines xform_lines =
-    let o = main-is unit.Old tt old is_old old_lines in
-    let n = main-is unit.New tt new is_new new_lines in
+layout-is : (old new : Source) (setter : Setter) → IsSource old → IsSource new → IsSetter setter → IsLayout (merged_layout old new setter)
+layout-is old new setter is_old is_new is_setter =
+    let o = main-is unit.Old tt old is_old (omega (arith, source-length old, is_old.lines)) in
+    let n = main-is unit.New tt new is_new (omega (arith, source-length new, is_new.lines)) in
     let p : IsPosition (main_at unit.Old old) = o.head in
     let x : IsPosition (at unit.Xform 1) = (tt, omega arith, omega arith) in
     let first = first_line-is old.includes in record {
@@ -174,7 +173,7 @@ layout-is old new setter is_old is_new is_setter old_lines new_lines xform_lines
       old = o;
       new = n;
       wrapper = record { head = p; test = p; new_call = p; new_return = p; old_call = p; old_return = p };
-      transform = record { head = x; sets = sets-are 2 setter.values (omega arith) (omega arith) is_setter.values };
+      transform = record { head = x; sets = sets-are 2 setter.values (omega arith) (omega (arith, setter-length setter, is_setter.lines)) is_setter.values };
       start = record { head = p; call = p; last = p };
     }
 
@@ -202,7 +201,7 @@ module _ (first second xform : Program) (p : AreFirst first second xform) where
   pub is_merge_of : IsMergeOf first second xform (merged_program first second xform)
   is_merge_of = record {
     parts = p;
-    layout = layout-is p.old p.new p.setter p.is_old p.is_new p.is_setter p.old_lines p.new_lines p.xform_lines;
+    layout = layout-is p.old p.new p.setter p.is_old p.is_new p.is_setter;
     program = is_layout;
   }
 

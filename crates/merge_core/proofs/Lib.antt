@@ -11,5 +11,6 @@ pub mod MergedNames
 pub mod FirstBodies
 pub mod FirstWorld
 pub mod FirstTheorem
+pub mod LineCounts
 pub mod FirstForms
 pub mod PrintedLayout

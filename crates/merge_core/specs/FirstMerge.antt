@@ -1,6 +1,6 @@
 -- The merged program of two sources of the first form and a transformer, by the parts of its layout.
-use Rattle.std.specs.Prelude.{◌≡◌, ℕ, ℤ, ◌+◌, List, [], ◌∷◌, None, true, length, ◌↔◌}
-use Rattle.c_lang.specs.Sources.{Source, Setter, Action, IsSource, IsSetter, FitsNumber, at, first_line, source_program, setter_program}
+use Rattle.std.specs.Prelude.{◌≡◌, ℕ, ℤ, ◌+◌, List, [], ◌∷◌, None, true, ◌↔◌}
+use Rattle.c_lang.specs.Sources.{Source, Setter, Action, IsSource, IsSetter, at, first_line, source_program, setter_program}
 use Rattle.c_lang.specs.Sources as source
 use Rattle.c_lang.specs.Layout.{Layout, IsLayout, Expansion, Piece, Main, layout_program}
 use Rattle.c_lang.specs.Layout as layout
@@ -72,10 +72,6 @@ pub record AreFirst (first second xform : Program) : Type 0 where
   pub is_setter : IsSetter setter
   pub same_name : new.name ≡ old.name
   pub sets_it : setter.name ≡ old.name
-  -- `#line` can give each line
-  pub old_lines : FitsNumber (last_line (first_line old.includes + 2) old.actions)
-  pub new_lines : FitsNumber (last_line (first_line new.includes + 2) new.actions)
-  pub xform_lines : FitsNumber (length setter.values + 1)
   pub first_program : source_program unit.Old old ≡ first
   pub second_program : source_program unit.New new ≡ second
   pub xform_program : setter_program setter ≡ xform
