@@ -43,7 +43,7 @@ renamed : (name given : Bytes) (values : List ℕ) → is_shared_name name ≡ t
     → AssignsOnly (Some name) (setter_program (setter_of given values))
     → (other : Setter) × IsSetter other × (other.name ≡ name) × (other.values ≡ values) × (setter_program other ≡ setter_program (setter_of given values))
 renamed name given [] fine parts only =
-    (setter_of name [], record { name = fine; values = parts.values }, refl, refl, refl)
+    (setter_of name [], record { name = fine; values = parts.values; lines = parts.lines }, refl, refl, refl)
 renamed name given (value ∷ values) fine parts only =
     (setter_of given (value ∷ values), parts, Some-injective given name (assigned_name (Some name) _ given value (only 0 no_func (omega arith) 0 no_statement (omega arith))), refl, refl)
 
