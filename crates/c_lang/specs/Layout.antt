@@ -167,14 +167,16 @@ is_zero_test name = Bin op.Eq (Var name) (Lit (pos 0))
 abbrev pub is_set_test : Bytes → Expr
 is_set_test name = Bin op.Ne (Var name) (Lit (pos 0))
 
+-- the update itself: the flag is set, and the transformer runs
+abbrev pub update_statements : Pos → Pos → List Stmt
+update_statements flag call =
+    stmt.Set flag (Into (codes "dsu_now")) (Lit (pos 1)) ∷ stmt.Call call Nowhere (codes "dsu_xform_dsu_transform") [] ∷ []
+
 abbrev pub expansion : Expansion → ℕ → Stmt
 expansion e k =
     stmt.If e.unless (is_zero_test (codes "dsu_now"))
     (stmt.Choice e.choice (Fresh kind.Int (codes "dsu_c")) k
-    ∷ stmt.If e.test (is_set_test (codes "dsu_c"))
-    (stmt.Set e.flag (Into (codes "dsu_now")) (Lit (pos 1))
-    ∷ stmt.Call e.call Nowhere (codes "dsu_xform_dsu_transform") []
-    ∷ []) []
+    ∷ stmt.If e.test (is_set_test (codes "dsu_c")) (update_statements e.flag e.call) []
     ∷ []) []
 
 abbrev pub piece_statement : Bytes → Piece → Stmt
@@ -191,12 +193,13 @@ abbrev pub returned_call : Pos → Pos → Bytes → List Stmt
 returned_call call last callee =
     stmt.Call call (Fresh kind.Int (codes "dsu_r")) callee [] ∷ stmt.Return last (Some (Var (codes "dsu_r"))) ∷ []
 
+-- the new version's statements after an update, else the old version's
+abbrev pub branches : Pos → List Stmt → List Stmt → List Stmt
+branches test new old = stmt.If test (is_set_test (codes "dsu_now")) new old ∷ []
+
 abbrev pub wrapper_body : Wrapper → List Stmt
 wrapper_body w =
-    stmt.If w.test (is_set_test (codes "dsu_now"))
-    (returned_call w.new_call w.new_return (codes "dsu_new_main"))
-    (returned_call w.old_call w.old_return (codes "dsu_old_main"))
-    ∷ []
+    branches w.test (returned_call w.new_call w.new_return (codes "dsu_new_main")) (returned_call w.old_call w.old_return (codes "dsu_old_main"))
 
 abbrev pub transform_body : Bytes → Transform → List Stmt
 transform_body name t = map (λ (set : Pos × ℕ). set_statement (both_name name) set.0 set.1) t.sets

@@ -4,6 +4,7 @@
 
 pub mod event;
 pub mod expr;
+pub mod layout;
 pub mod name;
 pub mod program;
 pub mod refusal;

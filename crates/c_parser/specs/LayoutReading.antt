@@ -1,15 +1,12 @@
 -- Reading the layout of a merged text. The contracts of private functions cite it; no public
 -- clause does.
-use Rattle.std.specs.Prelude.{⊤, ℕ, pos, true, false, List, [], ◌∷◌, ◌++◌, map, Option, Some, None, codes}
+use Rattle.std.specs.Prelude.{⊤, ℕ, true, false, List, [], ◌∷◌, ◌++◌, map, Option, Some, None, codes}
 use Rattle.c_lang.specs.Names.{Bytes}
 use Rattle.c_lang.specs.Layout as layout
 use Rattle.c_lang.specs.Sources as sources
 use Rattle.c_lang.specs.Sources.{FitsNumber}
 use Rattle.c_lang.specs.Layout.{both_name, prototype, piece_statement, IsPosition, IsPiece}
-use Rattle.c_lang.specs.declared.expr.Expr.TheVariants.{Lit}
-use Rattle.c_lang.specs.declared.stmt.Dest.TheVariants.{Nowhere, Into}
 use Rattle.c_lang.specs.declared.stmt.Stmt.{Stmt}
-use Rattle.c_lang.specs.declared.stmt.Stmt.TheVariants as stmt
 use Rattle.c_lang.specs.declared.program.Proto.{Proto}
 use Rattle.c_lang.specs.declared.unit.Pos.{Pos}
 use Rattle.c_parser.specs.Readers.{Reader, ◌>>=◌, or_else, after, before, pair, mapped, many_before, behind, number, position, placed, ended}
@@ -220,13 +217,6 @@ IsStatement p = IsPiece (piece_view p)
 
 abbrev pub statement : Bytes → code_piece.Piece → Stmt
 statement name p = piece_statement name (piece_view p)
-
--- the flag is set, and the transformer runs
-abbrev pub update_statements : Pos → Pos → List Stmt
-update_statements flag call =
-    stmt.Set flag (Into (codes "dsu_now")) (Lit (pos 1))
-    ∷ stmt.Call call Nowhere (codes "dsu_xform_dsu_transform") []
-    ∷ []
 
 abbrev pub protos : layout.Prototypes → List Proto
 protos p =

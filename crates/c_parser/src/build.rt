@@ -6,7 +6,7 @@ ghost use Rattle.c_lang.specs.Sources.{FitsNumber};
 ghost use Rattle.c_lang.specs.declared.stmt.Stmt.TheVariants as stmt;
 ghost use Rattle.c_lang.specs.declared.expr.Expr.TheVariants.{Var};
 
-use c_lang::{Dest, Expr, Func, GlobalVar, Name, Pos, Shape, Stmt};
+use c_lang::{Dest, Expr, GlobalVar, Name, Pos, Shape, Stmt};
 use sqlite_items::Items;
 use std::alloc::{AllocError, Global};
 
@@ -58,25 +58,6 @@ pub fn global(alloc: Global, name: &[u8], value: u32, pos: Pos) -> Result<Global
     Ok(GlobalVar {
         name: Name::new(alloc, name)?,
         shape: Shape::Int(value as i32),
-        pos,
-    })
-}
-
-/// A function without parameters.
-pub fn function(
-    alloc: Global,
-    name: &[u8],
-    gives: bool,
-    body: Items<Stmt>,
-    pos: Pos,
-) -> Result<Func, AllocError>
-    ensures { IfOk result (λ f. f ≡ sources.function name.now gives body pos) }
-{
-    Ok(Func {
-        name: Name::new(alloc, name)?,
-        params: Items::new(alloc),
-        gives,
-        body,
         pos,
     })
 }

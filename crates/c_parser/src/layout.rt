@@ -1,7 +1,6 @@
 //! The layout of a merged text of the first form, as it is read line by line.
 
 ghost use Rattle.std.specs.Prelude.{◌≡◌, ◌++◌, length, map, None, Some, MatchOption, IfOk, codes, ⊤};
-ghost use Rattle.c_lang.specs.Layout as names;
 ghost use Rattle.c_parser.specs.Readers.{many};
 ghost use Rattle.c_parser.specs.SourceReading.{Gives};
 ghost use Rattle.c_parser.specs.LayoutReading as spec;
@@ -9,7 +8,8 @@ ghost use Rattle.c_parser.specs.LayoutReading as spec;
 use crate::source::{declared, setting, show};
 use crate::stop::Stop;
 use crate::text::{behind, number, placed, position};
-use c_lang::{Name, Pos};
+use c_lang::Pos;
+use c_lang::layout::both_name;
 use std::alloc::{AllocError, Global};
 
 /// The positions of the lines that a point becomes.
@@ -329,15 +329,6 @@ fn read_opening(bytes: &[u8]) -> Option<(Prototypes, Globals<'_>, &[u8])>
     let (prototypes, rest) = read_prototypes(rest)?;
     let (globals, rest) = read_globals(rest)?;
     Some((prototypes, globals, rest))
-}
-
-/// The shared number's name in the merged program.
-pub fn both_name(alloc: Global, name: &[u8]) -> Result<Name, AllocError>
-    ensures { IfOk result (λ both. both ≡ names.both_name name.now) }
-{
-    let mut bytes = Vec::from_slice(alloc, b"dsu_both_")?;
-    bytes.extend_from_slice(name)?;
-    Ok(Name::from_vec(bytes))
 }
 
 /// A whole merged text.

@@ -1,74 +1,16 @@
 //! The program of a merged text of the first form.
 
-ghost use Rattle.std.specs.Prelude.{◌≡◌, map, pos, All, IfOk};
+ghost use Rattle.std.specs.Prelude.{◌≡◌, map, All, IfOk};
 ghost use Rattle.c_lang.specs.Layout as layout;
 ghost use Rattle.c_lang.specs.Sources.{FitsNumber};
-ghost use Rattle.c_lang.specs.declared.expr.Expr.TheVariants.{Lit, Var, Bin};
 ghost use Rattle.c_parser.specs.LayoutReading as spec;
 
-use crate::build::{function, global, return_zero};
-use crate::layout::{Expansion, Layout, Main, Piece, Prototypes, Transform, Wrapper, both_name};
-use c_lang::{Dest, Expr, Func, GlobalVar, Kind, Name, Op, Pos, Program, Proto, Stmt};
-use sqlite_items::{Boxed, Items};
+use crate::build::{global, return_zero};
+use crate::layout::{Layout, Main, Piece, Prototypes, Transform, Wrapper};
+use c_lang::layout::{both_name, expansion, function, prototype, returned_call, wrapper_body};
+use c_lang::{Dest, Expr, Func, GlobalVar, Pos, Program, Proto, Stmt};
+use sqlite_items::Items;
 use std::alloc::{AllocError, Global};
-
-/// A comparison of a name with 0.
-fn comparison_with_zero(alloc: Global, op: Op, name: &[u8]) -> Result<Expr, AllocError>
-    ensures { IfOk result (λ comparison. comparison ≡ Bin op (Var name.now) (Lit (pos 0))) }
-{
-    let name = Name::new(alloc, name)?;
-    let left = Boxed::new(alloc, Expr::Var(name))?;
-    let right = Boxed::new(alloc, Expr::Lit(0))?;
-    Ok(Expr::Bin(op, left, right))
-}
-
-/// The flag is set, and the transformer runs.
-fn update_statements(alloc: Global, flag: Pos, call: Pos) -> Result<Items<Stmt>, AllocError>
-    ensures { IfOk result (λ statements. statements ≡ spec.update_statements flag call) }
-{
-    let now = Name::new(alloc, b"dsu_now")?;
-    let transform = Name::new(alloc, b"dsu_xform_dsu_transform")?;
-    let set = Stmt::Set {
-        pos: flag,
-        dest: Dest::Into(now),
-        value: Expr::Lit(1),
-    };
-    let call = Stmt::Call {
-        pos: call,
-        dest: Dest::Nowhere,
-        callee: transform,
-        args: Items::new(alloc),
-    };
-    Ok(Items::from_vec(vec![in alloc; set, call]?))
-}
-
-/// Unless an update happened, the client chooses whether it happens now.
-fn expansion(alloc: Global, point: Expansion, k: u32) -> Result<Stmt, AllocError>
-    ensures { IfOk result (λ statement. statement ≡ layout.expansion (spec.expansion_view point) k) }
-{
-    let answer = Name::new(alloc, b"dsu_c")?;
-    let choice = Stmt::Choice {
-        pos: point.choice,
-        dest: Dest::Fresh(Kind::Int, answer),
-        k,
-    };
-    let update = update_statements(alloc, point.flag, point.call)?;
-    let cond = comparison_with_zero(alloc, Op::Ne, b"dsu_c")?;
-    let test = Stmt::If {
-        pos: point.test,
-        cond,
-        yes: update,
-        no: Items::new(alloc),
-    };
-    let cond = comparison_with_zero(alloc, Op::Eq, b"dsu_now")?;
-    let yes = vec![in alloc; choice, test]?;
-    Ok(Stmt::If {
-        pos: point.unless,
-        cond,
-        yes: Items::from_vec(yes),
-        no: Items::new(alloc),
-    })
-}
 
 /// An assignment of a number to the shared one.
 fn set_statement(alloc: Global, name: &[u8], set: (Pos, u32)) -> Result<Stmt, AllocError>
@@ -98,7 +40,15 @@ fn statement(alloc: Global, name: &[u8], piece: Piece) -> Result<Stmt, AllocErro
         }
         Piece::Sets(pos, value) => set_statement(alloc, name, (pos, value)),
         Piece::Skips(pos) => Ok(Stmt::Skip { pos }),
-        Piece::Asks(point, k) => expansion(alloc, point, k),
+        Piece::Asks(point, k) => expansion(
+            alloc,
+            point.unless,
+            point.choice,
+            point.test,
+            point.flag,
+            point.call,
+            k,
+        ),
     }
 }
 
@@ -129,57 +79,13 @@ fn transform_body(
     Ok(statements)
 }
 
-/// A call of a function without parameters, whose result is returned.
-fn returned_call(
-    alloc: Global,
-    call: Pos,
-    last: Pos,
-    callee: &[u8],
-) -> Result<Items<Stmt>, AllocError>
-    ensures { IfOk result (λ statements. statements ≡ layout.returned_call call last callee.now) }
-{
-    let outcome = Name::new(alloc, b"dsu_r")?;
-    let callee = Name::new(alloc, callee)?;
-    let value = Name::new(alloc, b"dsu_r")?;
-    let call = Stmt::Call {
-        pos: call,
-        dest: Dest::Fresh(Kind::Int, outcome),
-        callee,
-        args: Items::new(alloc),
-    };
-    let last = Stmt::Return {
-        pos: last,
-        value: Some(Expr::Var(value)),
-    };
-    Ok(Items::from_vec(vec![in alloc; call, last]?))
-}
-
 /// The body of the function that calls the current version's `main`.
-fn wrapper_body(alloc: Global, wrapper: Wrapper) -> Result<Items<Stmt>, AllocError>
+fn any_main(alloc: Global, wrapper: Wrapper) -> Result<Items<Stmt>, AllocError>
     ensures { IfOk result (λ statements. statements ≡ layout.wrapper_body (spec.wrapper_view wrapper)) }
 {
-    let cond = comparison_with_zero(alloc, Op::Ne, b"dsu_now")?;
-    let yes = returned_call(alloc, wrapper.new_call, wrapper.new_return, b"dsu_new_main")?;
-    let no = returned_call(alloc, wrapper.old_call, wrapper.old_return, b"dsu_old_main")?;
-    let test = Stmt::If {
-        pos: wrapper.test,
-        cond,
-        yes,
-        no,
-    };
-    Ok(Items::from_vec(vec![in alloc; test]?))
-}
-
-fn prototype(alloc: Global, name: &[u8], gives: bool, pos: Pos) -> Result<Proto, AllocError>
-    ensures { IfOk result (λ proto. proto ≡ layout.prototype name.now gives pos) }
-{
-    let name = Name::new(alloc, name)?;
-    Ok(Proto {
-        name,
-        params: Items::new(alloc),
-        gives,
-        pos,
-    })
+    let new = returned_call(alloc, wrapper.new_call, wrapper.new_return, b"dsu_new_main")?;
+    let old = returned_call(alloc, wrapper.old_call, wrapper.old_return, b"dsu_old_main")?;
+    wrapper_body(alloc, wrapper.test, new, old)
 }
 
 fn protos(alloc: Global, at: Prototypes) -> Result<Items<Proto>, AllocError>
@@ -214,7 +120,7 @@ fn funcs(alloc: Global, text: &Layout) -> Result<Items<Func>, AllocError>
     let old = function(alloc, b"dsu_old_main", true, body, text.old.head)?;
     let body = version_body(alloc, text.name, &text.new)?;
     let new = function(alloc, b"dsu_new_main", true, body, text.new.head)?;
-    let body = wrapper_body(alloc, text.wrapper)?;
+    let body = any_main(alloc, text.wrapper)?;
     let any = function(alloc, b"dsu_any_main", true, body, text.wrapper.head)?;
     let body = transform_body(alloc, text.name, &text.transform)?;
     let xform = function(

@@ -5,8 +5,9 @@ ghost use Rattle.c_lang.specs.Sources as sources;
 ghost use Rattle.c_lang.specs.Sources.{FitsNumber, FitsAction, IsSource, IsSetter};
 ghost use Rattle.c_parser.specs.SourceReading as spec;
 
-use crate::build::{function, global, one, output, return_zero, set_statement};
+use crate::build::{global, one, output, return_zero, set_statement};
 use crate::source::{Action, Setter, Source};
+use c_lang::layout::function;
 use c_lang::{Pos, Program, Stmt, Unit};
 use sqlite_items::Items;
 use std::alloc::{AllocError, Global};

@@ -2,16 +2,15 @@
 use Rattle.std.specs.Prelude.{⊤, ◌≡◌, ℕ, ◌<◌, ℤ, pos, true, false, List, [], ◌∷◌, map, length, slice_get, unwrap_or, All, codes}
 use Rattle.c_lang.specs.Names.{Bytes}
 use Rattle.c_lang.specs.Sources.{at, global, function, return_zero}
-use Rattle.c_lang.specs.Layout.{both_name, expansion, prototype, wrapper_body, returned_call}
+use Rattle.c_lang.specs.Layout.{both_name, expansion, prototype, branches, returned_call}
 use Rattle.c_lang.specs.Programs.{no_func}
 use Rattle.merge_core.specs.FirstMerge.{expansion_at}
 use Rattle.c_lang.specs.declared.unit.Unit.{Unit}
 use Rattle.c_lang.specs.declared.unit.Unit.TheVariants as unit
 use Rattle.c_lang.specs.declared.unit.Pos.{Pos}
-use Rattle.c_lang.specs.declared.expr.Op.{Op}
 use Rattle.c_lang.specs.declared.expr.Expr.{Expr}
-use Rattle.c_lang.specs.declared.expr.Expr.TheVariants.{Lit, Var, Bin}
-use Rattle.c_lang.specs.declared.stmt.Dest.TheVariants.{Nowhere, Into}
+use Rattle.c_lang.specs.declared.expr.Expr.TheVariants.{Lit, Var}
+use Rattle.c_lang.specs.declared.stmt.Dest.TheVariants.{Into}
 use Rattle.c_lang.specs.declared.stmt.Stmt.{Stmt, out-Stmt}
 use Rattle.c_lang.specs.declared.stmt.Stmt.TheOpen.{Stmt-F}
 use Rattle.c_lang.specs.declared.stmt.Stmt.TheOpen as one
@@ -69,21 +68,9 @@ merged_statement unit name s = merged_level unit name s (out-Stmt s)
 abbrev pub merged_function : Unit → Bytes → Bytes → Func → Func
 merged_function unit name merged f = function merged f.gives (map (merged_statement unit name) f.body) f.pos
 
--- ---- what is added
-
--- `name op 0`
-abbrev pub comparison_with_zero : Op → Bytes → Expr
-comparison_with_zero op name = Bin op (Var name) (Lit (pos 0))
-
--- the flag is set, and the transformer runs
-abbrev pub update_statements : Pos → List Stmt
-update_statements p =
-    stmt.Set p (Into (codes "dsu_now")) (Lit (pos 1)) ∷ stmt.Call p Nowhere (codes "dsu_xform_dsu_transform") [] ∷ []
-
 -- calls the current version's `main`
 abbrev pub wrapper_statements : Pos → List Stmt
-wrapper_statements p =
-    wrapper_body (record { head = p; test = p; new_call = p; new_return = p; old_call = p; old_return = p })
+wrapper_statements p = branches p (returned_call p p (codes "dsu_new_main")) (returned_call p p (codes "dsu_old_main"))
 
 -- ---- the program
 

@@ -1,12 +1,11 @@
 //! The merged program of three programs of the first form.
 
 ghost use Rattle.std.specs.Prelude.{◌≡◌, ◌<◌, All, IfOk, length};
-ghost use Rattle.c_lang.specs.Layout.{prototype};
-ghost use Rattle.c_lang.specs.Sources.{function};
 ghost use Rattle.merge_core.specs.FirstMerge.{AreFirst, IsMergeOf, ShowsTheSame};
 ghost use Rattle.merge_core.specs.MergedProgram.{HasFirstForm, IsFirstStatement, IsWhole, main_of, merged_function, merged_functions, merged_global, merged_globals, merged_program, merged_prototypes, shared_of};
 
-use crate::merged_statement::{both_name, merged_body, returned_call, wrapper_body};
+use crate::merged_statement::merged_body;
+use c_lang::layout::{both_name, function, prototype, returned_call, wrapper_body};
 use c_lang::{Func, GlobalVar, Name, Pos, Program, Proto, Shape, Stmt, Unit};
 use sqlite_items::Items;
 use std::alloc::{AllocError, Global};
@@ -86,7 +85,7 @@ fn merged_global(alloc: Global, shared: &GlobalVar) -> Result<GlobalVar, AllocEr
 {
     match &shared.shape {
         Shape::Int(value) => {
-            let name = both_name(alloc, &shared.name)?;
+            let name = both_name(alloc, shared.name.as_bytes())?;
             Ok(GlobalVar {
                 name,
                 shape: Shape::Int(*value),
@@ -95,18 +94,6 @@ fn merged_global(alloc: Global, shared: &GlobalVar) -> Result<GlobalVar, AllocEr
         }
         _ => unreachable!(),
     }
-}
-
-fn prototype(alloc: Global, name: &[u8], gives: bool, pos: Pos) -> Result<Proto, AllocError>
-    ensures { IfOk result (λ proto. proto ≡ prototype name.now gives pos) }
-{
-    let name = Name::new(alloc, name)?;
-    Ok(Proto {
-        name,
-        params: Items::new(alloc),
-        gives,
-        pos,
-    })
 }
 
 // One prototype for each function, in the functions' order.
@@ -125,25 +112,6 @@ fn merged_prototypes(
     let main = prototype(alloc, b"main", true, old)?;
     let all = vec![in alloc; old_main, new_main, any_main, transform, main]?;
     Ok(Items::from_vec(all))
-}
-
-fn function(
-    alloc: Global,
-    name: &[u8],
-    gives: bool,
-    body: Items<Stmt>,
-    pos: Pos,
-) -> Result<Func, AllocError>
-    ensures { IfOk result (λ func. func ≡ function name.now gives body pos) }
-{
-    let name = Name::new(alloc, name)?;
-    Ok(Func {
-        name,
-        params: Items::new(alloc),
-        gives,
-        body,
-        pos,
-    })
 }
 
 // A function of one unit under its merged name.
@@ -175,7 +143,9 @@ fn merged_functions(
 {
     let old_main = merged_function(alloc, Unit::Old, shared, b"dsu_old_main", old)?;
     let new_main = merged_function(alloc, Unit::New, shared, b"dsu_new_main", new)?;
-    let wrapper = wrapper_body(alloc, old.pos)?;
+    let call_new = returned_call(alloc, old.pos, old.pos, b"dsu_new_main")?;
+    let call_old = returned_call(alloc, old.pos, old.pos, b"dsu_old_main")?;
+    let wrapper = wrapper_body(alloc, old.pos, call_new, call_old)?;
     let any_main = function(alloc, b"dsu_any_main", true, wrapper, old.pos)?;
     let transform = merged_function(
         alloc,
@@ -184,7 +154,7 @@ fn merged_functions(
         b"dsu_xform_dsu_transform",
         transform,
     )?;
-    let start = returned_call(alloc, old.pos, b"dsu_old_main")?;
+    let start = returned_call(alloc, old.pos, old.pos, b"dsu_old_main")?;
     let main = function(alloc, b"main", true, start, old.pos)?;
     let all = vec![in alloc; old_main, new_main, any_main, transform, main]?;
     Ok(Items::from_vec(all))
