@@ -10,3 +10,15 @@ pub mod LayoutIs
 pub mod LayoutRead
 pub mod LayoutWhole
 pub mod Programs
+pub mod SeparatedTurns
+pub mod OperatorLaws
+pub mod ExpressionTurns
+pub mod ExpressionComplete
+pub mod ExpressionSound
+pub mod StatementTurns
+pub mod SeparatedLaws
+pub mod SideComplete
+pub mod SideSound
+pub mod StatementComplete
+pub mod StatementSound
+pub mod BlockLaws

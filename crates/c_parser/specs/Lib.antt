@@ -3,3 +3,14 @@ pub mod LayoutReading
 pub mod SourceReading
 pub mod Reading
 pub mod Refusals
+pub mod Tokens
+pub mod Separated
+pub mod Expressions
+pub mod Nesting
+pub mod ParseSteps
+pub mod ExpressionReading
+pub mod ParseSeen
+pub mod Scopes
+pub mod Statements
+pub mod StatementReading
+pub mod Blocks
