@@ -224,6 +224,7 @@ layout_program l = record {
       ∷ function (codes "dsu_xform_dsu_transform") false (transform_body l.name l.transform) l.transform.head
       ∷ function (codes "main") true (returned_call l.start.call l.start.last (codes "dsu_old_main")) l.start.head
       ∷ [];
+  early = [];
 }
 
 -- ---- what is a layout

@@ -116,6 +116,7 @@ source_program unit source =
       globals = global source.name source.value (at unit line) ∷ [];
       protos = [];
       funcs = function (codes "main") true (main_body unit source.name (line + 2) source.actions) (at unit (line + 1)) ∷ [];
+      early = [];
     }
 
 abbrev pub setter_program : Setter → Program
@@ -123,6 +124,7 @@ setter_program setter = record {
   globals = [];
   protos = [];
   funcs = function (codes "dsu_transform") false (setter_body setter.name 2 setter.values) (at unit.Xform 1) ∷ [];
+  early = [];
 }
 
 abbrev pub FitsAction : Action → Type 0

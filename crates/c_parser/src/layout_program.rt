@@ -151,5 +151,6 @@ pub fn layout_program(alloc: Global, text: &Layout) -> Result<Program, AllocErro
         globals,
         protos,
         funcs,
+        early: Items::new(alloc),
     })
 }

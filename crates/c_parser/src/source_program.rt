@@ -91,6 +91,7 @@ pub fn source_program(alloc: Global, unit: Unit, source: &Source) -> Result<Prog
         globals: one(alloc, shared)?,
         protos: Items::new(alloc),
         funcs: one(alloc, main)?,
+        early: Items::new(alloc),
     })
 }
 
@@ -110,5 +111,6 @@ pub fn setter_program(alloc: Global, setter: &Setter) -> Result<Program, AllocEr
         globals: Items::new(alloc),
         protos: Items::new(alloc),
         funcs: one(alloc, transform)?,
+        early: Items::new(alloc),
     })
 }

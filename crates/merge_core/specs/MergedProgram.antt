@@ -111,4 +111,5 @@ merged_program first second xform = record {
   globals = merged_globals (shared_of first);
   protos = merged_prototypes (main_of first).pos (main_of second).pos (main_of xform).pos;
   funcs = merged_functions (shared_of first).name (main_of first) (main_of second) (main_of xform);
+  early = [];
 }

@@ -52,6 +52,7 @@ fn merged_program(
         globals,
         protos,
         funcs,
+        early: Items::new(alloc),
     })
 }
 
