@@ -4,7 +4,7 @@ use Rattle.c_lang.specs.declared.unit.Pos.{Pos}
 use Rattle.c_lexer.specs.declared.token.Token.{Token}
 use Rattle.c_lexer.specs.declared.token.Word.{Word}
 use Rattle.c_lexer.specs.declared.token.Word.TheVariants as w
-use Rattle.c_parser.specs.Tokens.{round_open, round_close, brace_open, brace_close, square_open, square_close}
+use Rattle.c_expressions.specs.Tokens.{round_open, round_close, brace_open, brace_close, square_open, square_close}
 
 abbrev pub opened_by : ℕ → ℕ → ℕ
 opened_by open_now k =

@@ -11,10 +11,10 @@ use Rattle.c_lang.specs.declared.program.Shape.TheVariants as shape
 use Rattle.c_lexer.specs.declared.token.Token.{Token}
 use Rattle.c_lexer.specs.declared.token.Word.{Word}
 use Rattle.c_lexer.specs.declared.token.Word.TheVariants as w
-use Rattle.c_parser.specs.Tokens.{round_open, round_close, brace_open, brace_close, square_open, square_close, semicolon, equals, minus, int_key, void_key}
-use Rattle.c_parser.specs.Scopes.{Scope, declare, arity_refusals}
-use Rattle.c_parser.specs.ParseSteps.{◌>>=◌, after, after_key, name_at, number_at, separated}
-use Rattle.c_parser.specs.StatementReading.{Read, nothing, items, stmt, Pointer, pointer_at}
+use Rattle.c_expressions.specs.Tokens.{round_open, round_close, brace_open, brace_close, square_open, square_close, semicolon, equals, minus, int_key, void_key}
+use Rattle.c_statements.specs.Scopes.{Scope, declare, arity_refusals}
+use Rattle.c_expressions.specs.ParseSteps.{◌>>=◌, after, after_key, name_at, number_at, separated}
+use Rattle.c_statements.specs.StatementReading.{Read, nothing, items, stmt, Pointer, pointer_at}
 use Rattle.c_parser.specs.Units.{Parts, with_global, with_proto, with_func, array_refusals, kept_values}
 
 -- ---- heads

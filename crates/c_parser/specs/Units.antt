@@ -16,10 +16,10 @@ use Rattle.c_lang.specs.declared.program.Func.{Func}
 use Rattle.c_lang.specs.declared.program.Program.{Program}
 use Rattle.c_lexer.specs.declared.token.Token.{Token}
 use Rattle.c_lexer.specs.declared.token.Word.TheVariants as w
-use Rattle.c_parser.specs.Tokens.{At, token, mark, keyword, round_open, round_close, brace_open, brace_close, square_open, square_close, semicolon, equals, minus, int_key, void_key}
-use Rattle.c_parser.specs.Separated.{Separated, last, more, parts_of, separated_tokens, Each}
-use Rattle.c_parser.specs.Scopes.{Scope, declare, refusal, arity_refusals, is_merge}
-use Rattle.c_parser.specs.Statements.{PointerTree, pointer_tokens, arity, Pieces, pieces_tokens, pieces_height, pieces_stmts, pieces_scope, ArePieces}
+use Rattle.c_expressions.specs.Tokens.{At, token, mark, keyword, round_open, round_close, brace_open, brace_close, square_open, square_close, semicolon, equals, minus, int_key, void_key}
+use Rattle.c_expressions.specs.Separated.{Separated, last, more, parts_of, separated_tokens, Each}
+use Rattle.c_statements.specs.Scopes.{Scope, declare, refusal, arity_refusals, is_merge}
+use Rattle.c_statements.specs.Statements.{PointerTree, pointer_tokens, arity, Pieces, pieces_tokens, pieces_height, pieces_stmts, pieces_scope, ArePieces}
 
 -- ---- heads
 

@@ -3,7 +3,7 @@
 ghost use Rattle.std.specs.Prelude.{◌≡◌, ◌<◌, ◌+◌, ◌^◌};
 ghost use Rattle.c_parser.specs.Nesting as spec;
 
-use crate::words;
+use c_expressions::words;
 use c_lang::Pos;
 use c_lexer::{Token, Word};
 

@@ -5,7 +5,7 @@ use Rattle.c_lang.specs.declared.unit.Unit.TheVariants.{Old, New, Xform}
 use Rattle.c_lang.specs.declared.program.Program.{Program}
 use Rattle.c_lang.specs.declared.refusal.Fail.{Fail}
 use Rattle.c_lang.specs.declared.refusal.Fail.TheVariants.{NoMemory, Refused}
-use Rattle.c_parser.specs.Refusals.{IsRefusedForm}
+use Rattle.c_lines.specs.Refusals.{IsRefusedForm}
 use Rattle.dsu.specs.Conditions.{IsRefusedBy}
 use Rattle.dsu.specs.Merge.{Texts, form_conditions}
 

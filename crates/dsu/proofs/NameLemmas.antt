@@ -7,7 +7,7 @@ use Rattle.c_lang.specs.declared.refusal.Refusal.{Refusal}
 use Rattle.dsu.specs.Conditions.{AllHold, IsFirstRefusal}
 use Rattle.dsu.specs.FirstForm.{number_name, AssignsOnly, ShareNumber, AssignsNumber, program_conditions}
 use Rattle.dsu.specs.Merge.{Texts, name_conditions}
-use Rattle.c_parser.proofs.Programs.{one as one-program}
+use Rattle.c_lines.proofs.Programs.{one as one-program}
 
 module _ (texts : Texts) (first second xform : Program) (old : Lines Old texts.old first) (new : Lines New texts.new second) (transformer : Lines Xform texts.xform xform) where
   shared : ShareNumber texts.old texts.new → number_name first ≡ number_name second

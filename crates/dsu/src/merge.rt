@@ -16,7 +16,7 @@ use crate::status::Status;
 use crate::stop::Stop;
 use crate::words::World;
 use c_lang::{Fail, Program, Refusal, Unit, limit_of};
-use c_parser::parse_lines;
+use c_lines::parse_lines;
 use merge_core::{merge_first, print_first};
 use outside::Files;
 use std::alloc::{AllocError, Global};

@@ -4,7 +4,7 @@ use Rattle.dsu.specs.Merge.{size_conditions, form_conditions, name_conditions}
 use Rattle.dsu.proofs.ConditionLemmas.{all-append, refused-behind}
 use Rattle.dsu.proofs.NameLemmas.{names-hold, names-refused}
 use Rattle.dsu.proofs.FirstFormLemmas.{are-first}
-use Rattle.c_parser.proofs.Programs.{one as one-program}
+use Rattle.c_lines.proofs.Programs.{one as one-program}
 use Rattle.c_lang.specs.declared.unit.Unit.TheVariants.{Merge}
 use Rattle.dsu.proofs.merge.merge_texts.Goals as goal
 

@@ -1,0 +1,6 @@
+pub mod SeparatedTurns
+pub mod OperatorLaws
+pub mod ExpressionTurns
+pub mod ExpressionComplete
+pub mod ExpressionSound
+pub mod SeparatedLaws

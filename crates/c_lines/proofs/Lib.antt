@@ -1,0 +1,12 @@
+pub mod Texts
+pub mod Combined
+pub mod Many
+pub mod Tokens
+pub mod SourceLaws
+pub mod SourceIs
+pub mod Counted
+pub mod LayoutLaws
+pub mod LayoutIs
+pub mod LayoutRead
+pub mod LayoutWhole
+pub mod Programs

@@ -1,0 +1,5 @@
+pub mod Readers
+pub mod LayoutReading
+pub mod SourceReading
+pub mod Reading
+pub mod Refusals

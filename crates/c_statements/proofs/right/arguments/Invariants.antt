@@ -1,0 +1,16 @@
+use Rattle.std.proofs.Common.{◌≤◌, ◌+◌, max, length}
+use Rattle.c_expressions.specs.ParseSteps.{separated}
+use Rattle.c_statements.specs.StatementReading as spec
+use Rattle.c_statements.specs.Seen.{seen_args}
+use Rattle.c_expressions.proofs.SeparatedTurns.{IsLeft}
+use Rattle.c_statements.proofs.right.arguments.Given as goal
+
+abbrev pub invariant-loop-next : goal.invariant-loop-next
+invariant-loop-next l = record {
+  total : IsLeft (spec.argument l.below) (seen_args l.args) l.rest (separated (spec.argument l.below) (length l.tokens + 1) spec.no_args l.tokens);
+  height : l.args.height ≤ max 1 l.below;
+  shorter : length l.rest ≤ length l.tokens;
+}
+
+abbrev pub decreases-loop-next : goal.decreases-loop-next
+decreases-loop-next l = length l.rest

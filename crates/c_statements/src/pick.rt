@@ -1,0 +1,147 @@
+//! A client's choice between a call for the time after the update and one for the time before.
+
+ghost use Rattle.std.specs.Prelude.{◌≡◌, ◌≤◌, ◌<◌, ◌+◌, ◌-◌, ◌^◌, length, IfOk, IfSome, Some, option_map};
+ghost use Rattle.c_expressions.specs.ParseSteps.{Gives};
+ghost use Rattle.c_statements.specs.StatementReading as spec;
+ghost use Rattle.c_statements.specs.Seen.{seen_called, seen_one, seen_scope, seen_read, IsWithin};
+
+use crate::right::{Called, call_at};
+use crate::scope::{Scope, is_client};
+use crate::simple::{Parsed, call_to, only};
+use c_expressions::front::{after, after_key, name_at, skip, skip_key};
+use c_expressions::parse_error::ParseError;
+use c_expressions::words;
+use c_lang::{Dest, Name, Pos, Stmt, Unit};
+use c_lexer::{Token, Word};
+use sqlite_items::Boxed;
+use std::alloc::Global;
+
+/// One call of a pick, as a statement.
+#[derive(Drop)]
+pub struct One<'a> {
+    pub stmt: Stmt,
+    pub height: u32,
+    pub rest: &'a [Token],
+}
+
+fn end_one(pos: Pos, dest: Dest, called: Called<'_>) -> Result<One<'_>, ParseError>
+    requires { called.height + 1 < 2 ^ 32 }
+    ensures read { Gives seen_one result (spec.end_one pos dest (Some (seen_called called.entry))) }
+    ensures height { IfOk result (λ x. x.height ≡ called.entry.height + 1) }
+    ensures rest { IfOk result (λ x. length x.rest.now < length called.entry.rest.now) }
+{
+    let rest = after(words::SEMICOLON, called.rest)?;
+    Ok(One {
+        stmt: call_to(pos, dest, called.call),
+        height: called.height + 1,
+        rest,
+    })
+}
+
+fn call_behind<'a>(
+    alloc: Global,
+    below: u32,
+    callee: &Name,
+    tokens: &'a [Token],
+) -> Result<Called<'a>, ParseError>
+    ensures read { Gives seen_called result (spec.call_behind below callee.now tokens.now) }
+    ensures height { IfOk result (λ x. x.height ≤ below) }
+    ensures rest { IfOk result (λ x. length x.rest.now < length tokens.now) }
+{
+    let inside = after(words::ROUND_OPEN, tokens)?;
+    call_at(alloc, below, callee, inside)
+}
+
+/// `below` bounds the height of the call alone.
+#[tactic(auto, unfolding(crate::specs::StatementReading::one_at))]
+fn one_at(alloc: Global, below: u32, tokens: &[Token]) -> Result<One<'_>, ParseError>
+    requires { below + 1 < 2 ^ 32 }
+    ensures read { Gives seen_one result (spec.one_at below tokens.now) }
+    ensures height { IfOk result (λ x. x.height ≤ below + 1) }
+    ensures rest { IfOk result (λ x. length x.rest.now < length tokens.now) }
+{
+    let [first, rest @ ..] = tokens else {
+        return Err(ParseError::Syntax(0));
+    };
+    let Word::Ident(name) = &first.what else {
+        return Err(ParseError::Syntax(tokens.len()));
+    };
+    match skip(words::EQUALS, rest) {
+        None => end_one(
+            first.pos,
+            Dest::Nowhere,
+            call_behind(alloc, below, name, rest)?,
+        ),
+        Some(given) => match name_at(given) {
+            None => Err(ParseError::Syntax(given.len())),
+            Some((callee, args)) => {
+                let dest = Dest::Into(name.copy(alloc)?);
+                end_one(first.pos, dest, call_behind(alloc, below, callee, args)?)
+            }
+        },
+    }
+}
+
+#[tactic(auto, unfolding(crate::specs::StatementReading::side_of_pick))]
+fn side_of_pick(alloc: Global, below: u32, tokens: &[Token]) -> Result<One<'_>, ParseError>
+    requires { below + 1 < 2 ^ 32 }
+    ensures read { Gives seen_one result (spec.side_of_pick below tokens.now) }
+    ensures height { IfOk result (λ x. x.height ≤ below + 1) }
+    ensures rest { IfOk result (λ x. length x.rest.now < length tokens.now) }
+{
+    match skip(words::BRACE_OPEN, tokens) {
+        None => one_at(alloc, below, tokens),
+        Some(inside) => {
+            let one = one_at(alloc, below, inside)?;
+            let rest = after(words::BRACE_CLOSE, one.rest)?;
+            Ok(One {
+                stmt: one.stmt,
+                height: one.height,
+                rest,
+            })
+        }
+    }
+}
+
+/// The rest behind `(dsu_updated`, where it stands at the front.
+pub fn updated_at(tokens: &[Token]) -> Option<&[Token]>
+    ensures value { option_map (λ rest. rest.now) result ≡ spec.updated_at tokens.now }
+    ensures rest { IfSome result (λ rest. length rest.now < length tokens.now) }
+{
+    skip_key(words::DSU_UPDATED, skip(words::ROUND_OPEN, tokens)?)
+}
+
+/// A pick, behind `if (dsu_updated`.
+#[tactic(auto, unfolding(crate::specs::StatementReading::pick_at))]
+pub fn pick_at(
+    alloc: Global,
+    unit: Unit,
+    below: u32,
+    pos: Pos,
+    scope: Scope,
+    tokens: &[Token],
+) -> Result<Parsed<'_>, ParseError>
+    requires deep { below + 1 < 2 ^ 32 }
+    ensures read { Gives seen_read result (spec.pick_at unit below pos (seen_scope scope) tokens.now) }
+    ensures within { IfOk result (λ x. IsWithin (below + 1) scope tokens.now x) }
+{
+    if !is_client(unit) || below < 3 {
+        return Err(ParseError::Syntax(tokens.len() + 1));
+    }
+    let opened = after(words::ROUND_OPEN, tokens)?;
+    let closed = after(words::ROUND_CLOSE, opened)?;
+    let inside = after(words::ROUND_CLOSE, closed)?;
+    let later = side_of_pick(alloc, below - 1, inside)?;
+    let other = after_key(words::ELSE, later.rest)?;
+    let earlier = side_of_pick(alloc, below - 1, other)?;
+    let height = later.height.max(earlier.height) + 1;
+    let after = Boxed::new(alloc, later.stmt)?;
+    let before = Boxed::new(alloc, earlier.stmt)?;
+    Ok(Parsed {
+        stmts: only(alloc, Stmt::Pick { pos, after, before })?,
+        height,
+        is_open: false,
+        scope,
+        rest: earlier.rest,
+    })
+}

@@ -1,0 +1,86 @@
+//! Pointers to functions, behind their `int`.
+
+ghost use Rattle.std.specs.Prelude.{◌≡◌, ◌≤◌, ◌<◌, ◌+◌, length, IfOk};
+ghost use Rattle.c_expressions.specs.ParseSteps.{Gives, separated};
+ghost use Rattle.c_statements.specs.StatementReading as spec;
+ghost use Rattle.c_statements.specs.Seen.{seen_pointer};
+
+use c_expressions::front::{after, after_key, name_at, skip, skip_key};
+use c_expressions::parse_error::ParseError;
+use c_expressions::words;
+use c_lang::Name;
+use c_lexer::Token;
+
+/// A pointer's name, the number of its parameters, or 33 where it has more than 32, and what
+/// follows it.
+#[derive(Drop)]
+pub struct Pointer<'a> {
+    pub name: &'a Name,
+    pub arity: u8,
+    pub rest: &'a [Token],
+}
+
+fn count_int(count: u8, tokens: &[Token]) -> Result<(u8, &[Token]), ParseError>
+    requires { count ≤ 33 }
+    ensures read { Gives (λ x. (x.0, x.1.now)) result (spec.count_int count tokens.now) }
+    ensures count { IfOk result (λ x. x.0 ≤ 33) }
+    ensures rest { IfOk result (λ x. length x.1.now < length tokens.now) }
+{
+    let rest = after_key(words::INT, tokens)?;
+    Ok(((count + 1).min(33), rest))
+}
+
+fn ints(tokens: &[Token]) -> Result<(u8, &[Token]), ParseError>
+    ensures read { Gives (λ x. (x.0, x.1.now)) result (separated spec.count_int (length tokens.now + 1) 0 tokens.now) }
+    ensures count { IfOk result (λ x. x.0 ≤ 33) }
+    ensures rest { IfOk result (λ x. length x.1.now < length tokens.now) }
+{
+    let mut count = 0;
+    let mut rest = tokens;
+    loop {
+        let next = count_int(count, rest)?;
+        match skip(words::COMMA, next.1) {
+            None => return Ok(next),
+            Some(others) => {
+                count = next.0;
+                rest = others;
+            }
+        }
+    }
+}
+
+#[tactic(auto, unfolding(crate::specs::StatementReading::ints_at))]
+fn ints_at(tokens: &[Token]) -> Result<(u8, &[Token]), ParseError>
+    ensures read { Gives (λ x. (x.0, x.1.now)) result (spec.ints_at tokens.now) }
+    ensures count { IfOk result (λ x. x.0 ≤ 33) }
+    ensures rest { IfOk result (λ x. length x.1.now < length tokens.now) }
+{
+    if let Some(rest) = skip(words::ROUND_CLOSE, tokens) {
+        return Ok((0, rest));
+    }
+    match skip_key(words::VOID, tokens) {
+        Some(inside) => Ok((0, after(words::ROUND_CLOSE, inside)?)),
+        None => {
+            let (count, closing) = ints(tokens)?;
+            Ok((count, after(words::ROUND_CLOSE, closing)?))
+        }
+    }
+}
+
+/// `(*NAME)(int, int)`.
+#[tactic(auto, unfolding(crate::specs::StatementReading::pointer_at))]
+pub fn pointer_at(tokens: &[Token]) -> Result<Pointer<'_>, ParseError>
+    ensures read { Gives seen_pointer result (spec.pointer_at tokens.now) }
+    ensures arity { IfOk result (λ x. x.arity ≤ 33) }
+    ensures rest { IfOk result (λ x. length x.rest.now < length tokens.now) }
+{
+    let star = after(words::ROUND_OPEN, tokens)?;
+    let named = after(words::STAR, star)?;
+    let Some((name, closing)) = name_at(named) else {
+        return Err(ParseError::Syntax(named.len()));
+    };
+    let params = after(words::ROUND_CLOSE, closing)?;
+    let inside = after(words::ROUND_OPEN, params)?;
+    let (arity, rest) = ints_at(inside)?;
+    Ok(Pointer { name, arity, rest })
+}
