@@ -1,0 +1,3 @@
+pub mod UnitComplete
+pub mod UnitSound
+pub mod UnitLaws

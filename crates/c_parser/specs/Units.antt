@@ -1,23 +1,19 @@
 -- The grammar of a unit's declarations, by cases on trees that keep every token.
-use Rattle.std.specs.Prelude.{⊤, ◌≡◌, ℕ, ℤ, pos, ◌+◌, ◌-◌, ◌<◌, ◌≤◌, max, min, nat_lt, Bool, true, false, ◌||◌, ◌==◌, if◌then◌else◌, List, [], ◌∷◌, ◌++◌, map, length, Option, Some, None}
-use Rattle.std.specs.List.{replicate}
-use Rattle.std.specs.Int.{neg}
+use Rattle.std.specs.Prelude.{⊤, ℕ, ℤ, pos, ◌+◌, ◌-◌, ◌-ℤ◌, max, nat_lt, Bool, false, ◌||◌, ◌==◌, if◌then◌else◌, List, [], ◌∷◌, ◌++◌, map, length, replicate, Option, Some, None}
 use Rattle.c_lang.specs.Names.{Bytes}
 use Rattle.c_lang.specs.declared.unit.Unit.{Unit}
 use Rattle.c_lang.specs.declared.unit.Pos.{Pos}
 use Rattle.c_lang.specs.declared.refusal.Refusal.{Refusal}
 use Rattle.c_lang.specs.declared.stmt.Kind.{Kind}
 use Rattle.c_lang.specs.declared.stmt.Kind.TheVariants as kind
-use Rattle.c_lang.specs.declared.program.Shape.{Shape}
 use Rattle.c_lang.specs.declared.program.Shape.TheVariants as shape
 use Rattle.c_lang.specs.declared.program.GlobalVar.{GlobalVar}
 use Rattle.c_lang.specs.declared.program.Proto.{Proto}
 use Rattle.c_lang.specs.declared.program.Func.{Func}
-use Rattle.c_lang.specs.declared.program.Program.{Program}
 use Rattle.c_lexer.specs.declared.token.Token.{Token}
 use Rattle.c_lexer.specs.declared.token.Word.TheVariants as w
 use Rattle.c_expressions.specs.Tokens.{At, token, mark, keyword, round_open, round_close, brace_open, brace_close, square_open, square_close, semicolon, equals, minus, int_key, void_key}
-use Rattle.c_expressions.specs.Separated.{Separated, last, more, parts_of, separated_tokens, Each}
+use Rattle.c_expressions.specs.Separated.{Separated, parts_of, separated_tokens, Each}
 use Rattle.c_statements.specs.Scopes.{Scope, declare, refusal, arity_refusals, is_merge}
 use Rattle.c_statements.specs.Statements.{PointerTree, pointer_tokens, arity, Pieces, pieces_tokens, pieces_height, pieces_stmts, pieces_scope, ArePieces}
 
@@ -29,10 +25,10 @@ pub data ParamTree : Type 0 where
   number : At → At → Bytes → ParamTree
   pointer : At → PointerTree → ParamTree
 
-pub data Params : Type 0 where
-  nothing : Params
-  void : At → Params
-  params : Separated ParamTree → Params
+pub data ParamsTree : Type 0 where
+  nothing : ParamsTree
+  void : At → ParamsTree
+  several : Separated ParamTree → ParamsTree
 
 -- `int` or `void`, a name and the parameters
 pub record HeadTree : Type 0 where
@@ -41,7 +37,7 @@ pub record HeadTree : Type 0 where
   pub name_at : At
   pub name : Bytes
   pub opens : At
-  pub params : Params
+  pub params : ParamsTree
   pub closes : At
 
 abbrev pub param_tokens : ParamTree → List Token
@@ -49,45 +45,50 @@ param_tokens (nameless int) = keyword int_key int ∷ []
 param_tokens (number int at x) = keyword int_key int ∷ token at (w.Ident x) ∷ []
 param_tokens (pointer int p) = keyword int_key int ∷ pointer_tokens p
 
-abbrev pub params_tokens : Params → List Token
+abbrev pub params_tokens : ParamsTree → List Token
 params_tokens nothing = []
 params_tokens (void at) = keyword void_key at ∷ []
-params_tokens (params ts) = separated_tokens param_tokens ts
+params_tokens (several ts) = separated_tokens param_tokens ts
 
 abbrev pub head_tokens : HeadTree → List Token
 head_tokens h =
     keyword (if h.gives then int_key else void_key) h.at ∷ token h.name_at (w.Ident h.name) ∷ mark round_open h.opens
     ∷ params_tokens h.params ++ (mark round_close h.closes ∷ [])
 
+abbrev pub param_list : ParamsTree → List ParamTree
+param_list nothing = []
+param_list (void at) = []
+param_list (several ts) = parts_of ts
+
 abbrev pub param_kind : ParamTree → Kind
 param_kind (nameless int) = kind.Int
 param_kind (number int at x) = kind.Int
 param_kind (pointer int p) = kind.Fp (arity p)
-
-abbrev pub param_list : Params → List ParamTree
-param_list nothing = []
-param_list (void at) = []
-param_list (params ts) = parts_of ts
-
--- the pointers whose parameters are too many, at the position of the head
-abbrev pub param_refusals : Pos → List ParamTree → List Refusal
-param_refusals p [] = []
-param_refusals p (pointer int x ∷ ps) = arity_refusals p (arity x) ++ param_refusals p ps
-param_refusals p (x ∷ ps) = param_refusals p ps
-
--- the parameters of a function all have names
-abbrev pub IsNamed : ParamTree → Type 0
-IsNamed (nameless int) = ⊥
-IsNamed _ = ⊤
 
 abbrev pub param_name : ParamTree → Bytes
 param_name (nameless int) = []
 param_name (number int at x) = x
 param_name (pointer int p) = p.name
 
-abbrev pub params_scope : List ParamTree → Scope → Scope
-params_scope [] sc = sc
-params_scope (x ∷ ps) sc = params_scope ps (declare sc (param_name x))
+-- a pointer with too many parameters of its own, refused at the head's position
+abbrev pub param_refusals : Pos → ParamTree → List Refusal
+param_refusals p (pointer int x) = arity_refusals p (arity x)
+param_refusals p t = []
+
+abbrev pub all_refusals : Pos → List ParamTree → List Refusal
+all_refusals p [] = []
+all_refusals p (t ∷ ts) = param_refusals p t ++ all_refusals p ts
+
+-- the parameters of a function all have names
+abbrev pub IsNamed : ParamTree → Type 0
+IsNamed (nameless int) = ⊥
+IsNamed (number int at x) = ⊤
+IsNamed (pointer int p) = ⊤
+
+abbrev pub AreNamed : ParamsTree → Type 0
+AreNamed nothing = ⊤
+AreNamed (void at) = ⊤
+AreNamed (several ts) = Each IsNamed ts
 
 -- ---- globals
 
@@ -102,7 +103,7 @@ signed_tokens (negative sign at n) = mark minus sign ∷ token at (w.Number (pos
 
 abbrev pub signed_value : SignedTree → ℤ
 signed_value (plain at n) = pos n
-signed_value (negative sign at n) = neg (pos n)
+signed_value (negative sign at n) = pos 0 -ℤ pos n
 
 -- what stands behind a number's name
 pub data NumberInit : Type 0 where
@@ -120,6 +121,7 @@ pub data PointerInit : Type 0 where
   function : At → At → Bytes → PointerInit
   null : At → At → PointerInit
 
+-- a declaration of a unit
 pub data External : Type 0 where
   number : At → At → Bytes → NumberInit → At → External
   array : At → At → Bytes → At → At → ℕ → At → ArrayInit → At → External
@@ -149,48 +151,33 @@ external_tokens (pointer int p i end) = keyword int_key int ∷ pointer_tokens p
 external_tokens (prototype h end) = head_tokens h ++ (mark semicolon end ∷ [])
 external_tokens (function h o ts c) = head_tokens h ++ (mark brace_open o ∷ pieces_tokens ts ++ (mark brace_close c ∷ []))
 
+abbrev pub unit_tokens : List External → List Token
+unit_tokens [] = []
+unit_tokens (x ∷ xs) = external_tokens x ++ unit_tokens xs
+
 -- ---- heights and conditions
 
 -- only the statements of functions have a height
 abbrev pub external_height : External → ℕ
 external_height (function h o ts c) = pieces_height ts
-external_height _ = 0
+external_height x = 0
+
+abbrev pub unit_height : List External → ℕ
+unit_height [] = 0
+unit_height (x ∷ xs) = max (external_height x) (unit_height xs)
 
 abbrev pub IsExternal : Unit → External → Type 0
-IsExternal u (function h o ts c) = All IsNamed (param_list h.params) × ArePieces u false ts
-IsExternal u _ = ⊤
+IsExternal u (function h o ts c) = AreNamed h.params × ArePieces u false ts
+IsExternal u x = ⊤
+
+abbrev pub AreExternals : Unit → List External → Type 0
+AreExternals u [] = ⊤
+AreExternals u (x ∷ xs) = IsExternal u x × AreExternals u xs
 
 -- ---- the program
 
-abbrev pub cell_limit : Unit → ℕ
-cell_limit u = if is_merge u then 3145728 else 1048576
-
-abbrev pub values_of : ArrayInit → List ℤ
-values_of nothing = []
-values_of (given is o xs c) = map signed_value (parts_of xs)
-
--- an array of so many elements with these initializers can't be held, where so many cells are left
-abbrev pub array_refusals : Pos → ℕ → ℕ → ℕ → List Refusal
-array_refusals p room size given =
-    (if nat_lt size given then refusal 10 p ∷ [] else [])
-    ++ (if size == 0 || nat_lt 65536 size || nat_lt room size then refusal 27 p ∷ [] else [])
-
--- the initializers and then zeros, or nothing where the array is refused
-abbrev pub kept_values : List Refusal → ℕ → List ℤ → List ℤ
-kept_values [] size values = values ++ replicate (size - length values) (pos 0)
-kept_values (r ∷ rs) size values = []
-
-abbrev pub start_value : NumberInit → ℤ
-start_value nothing = pos 0
-start_value (given is x) = signed_value x
-
-abbrev pub start_function : PointerInit → Option Bytes
-start_function nothing = None
-start_function (function is at f) = Some f
-start_function (null is at) = None
-
--- the declarations so far: how many cells may still follow, and what is refused, by the order in
--- which globals, prototypes and functions are taken
+-- what the declarations so far have given: how many cells may still follow, and what is refused, by
+-- the order in which globals, prototypes and functions are checked
 pub record Parts : Type 0 where
   pub globals : List GlobalVar
   pub protos : List Proto
@@ -233,34 +220,72 @@ with_func a x early = record {
   early_funcs = a.early_funcs ++ early;
 }
 
--- what a function's body begins with: its parameters are declared, and their pointers noted
-abbrev pub body_start : HeadTree → Scope
-body_start h = params_scope (param_list h.params) (record { count = 0; declared = []; early = param_refusals h.at.pos (param_list h.params) })
-
-abbrev pub add : Parts → External → Parts
-add a (number int at x i end) = with_global a (record { name = x; shape = shape.Int (start_value i); pos = int.pos }) 1 []
-add a (array int at x o n size c i end) =
-    let early = array_refusals int.pos a.room size (length (values_of i)) in
-    with_global a (record { name = x; shape = shape.Arr (kept_values early size (values_of i)); pos = int.pos }) size early
-add a (pointer int p i end) =
-    with_global a (record { name = p.name; shape = shape.Fp (arity p) (start_function i); pos = int.pos }) 1 (arity_refusals int.pos (arity p))
-add a (prototype h end) =
-    with_proto a (record { name = h.name; params = map param_kind (param_list h.params); gives = h.gives; pos = h.at.pos }) (param_refusals h.at.pos (param_list h.params))
-add a (function h o ts c) =
-    with_func a (record { name = h.name; params = map (λ x. (param_kind x, param_name x)) (param_list h.params); gives = h.gives; body = pieces_stmts ts (body_start h); pos = h.at.pos })
-    (pieces_scope ts (body_start h)).early
-
-abbrev pub all_added : Parts → List External → Parts
-all_added a [] = a
-all_added a (x ∷ xs) = all_added (add a x) xs
+abbrev pub cell_limit : Unit → ℕ
+cell_limit u = if is_merge u then 3145728 else 1048576
 
 abbrev pub no_parts : Unit → Parts
 no_parts u = record { globals = []; protos = []; funcs = []; room = cell_limit u; early_globals = []; early_protos = []; early_funcs = [] }
 
-abbrev pub unit_tokens : List External → List Token
-unit_tokens [] = []
-unit_tokens (x ∷ xs) = external_tokens x ++ unit_tokens xs
+-- an array of so many elements with so many initializers can't be held, where so many cells are left
+abbrev pub array_refusals : Pos → ℕ → ℕ → ℕ → List Refusal
+array_refusals p room size count =
+    (if nat_lt size count then refusal 10 p ∷ [] else [])
+    ++ (if size == 0 || nat_lt 65536 size || nat_lt room size then refusal 27 p ∷ [] else [])
 
-abbrev pub unit_height : List External → ℕ
-unit_height [] = 0
-unit_height (x ∷ xs) = max (external_height x) (unit_height xs)
+-- the initializers and then zeros, or nothing where the array is refused
+abbrev pub kept_values : List Refusal → ℕ → List ℤ → List ℤ
+kept_values [] size values = values ++ replicate (size - length values) (pos 0)
+kept_values (r ∷ rs) size values = []
+
+abbrev pub with_number : Parts → Pos → Bytes → ℤ → Parts
+with_number a p x z = with_global a (record { name = x; shape = shape.Int z; pos = p }) 1 []
+
+abbrev pub with_array : Parts → Pos → Bytes → ℕ → List ℤ → Parts
+with_array a p x size values =
+    let early = array_refusals p a.room size (length values) in
+    with_global a (record { name = x; shape = shape.Arr (kept_values early size values); pos = p }) size early
+
+abbrev pub with_pointer : Parts → Pos → Bytes → ℕ → Option Bytes → Parts
+with_pointer a p x n target = with_global a (record { name = x; shape = shape.Fp n target; pos = p }) 1 (arity_refusals p n)
+
+abbrev pub start_value : NumberInit → ℤ
+start_value nothing = pos 0
+start_value (given is x) = signed_value x
+
+abbrev pub values_of : ArrayInit → List ℤ
+values_of nothing = []
+values_of (given is o xs c) = map signed_value (parts_of xs)
+
+abbrev pub target_of : PointerInit → Option Bytes
+target_of nothing = None
+target_of (function is at f) = Some f
+target_of (null is at) = None
+
+abbrev pub named_param : ParamTree → Kind × Bytes
+named_param t = (param_kind t, param_name t)
+
+abbrev pub all_declared : List (Kind × Bytes) → Scope → Scope
+all_declared [] sc = sc
+all_declared (x ∷ xs) sc = all_declared xs (declare sc x.1)
+
+-- what a function's body begins with: its parameters are declared, and their pointers noted
+abbrev pub body_start : List (Kind × Bytes) → List Refusal → Scope
+body_start params early = all_declared params (record { count = 0; declared = []; early = early })
+
+abbrev pub function_start : HeadTree → Scope
+function_start h = body_start (map named_param (param_list h.params)) (all_refusals h.at.pos (param_list h.params))
+
+abbrev pub add : Parts → External → Parts
+add a (number int at x i end) = with_number a int.pos x (start_value i)
+add a (array int at x o n size c i end) = with_array a int.pos x size (values_of i)
+add a (pointer int p i end) = with_pointer a int.pos p.name (arity p) (target_of i)
+add a (prototype h end) =
+    with_proto a (record { name = h.name; params = map param_kind (param_list h.params); gives = h.gives; pos = h.at.pos }) (all_refusals h.at.pos (param_list h.params))
+add a (function h o ts c) =
+    with_func a
+    (record { name = h.name; params = map named_param (param_list h.params); gives = h.gives; body = pieces_stmts ts (function_start h); pos = h.at.pos })
+    (pieces_scope ts (function_start h)).early
+
+abbrev pub add_all : Parts → List External → Parts
+add_all a [] = a
+add_all a (x ∷ xs) = add_all (add a x) xs

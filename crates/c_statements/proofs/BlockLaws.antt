@@ -16,10 +16,10 @@ use Rattle.c_expressions.proofs.ExpressionSound.{some_is}
 use Rattle.c_statements.proofs.StatementComplete.{count, count_fits, reads_pieces}
 use Rattle.c_statements.proofs.StatementSound.{pieces-read, reads_pieces_only}
 
-abbrev reading : Unit → ℕ → Scope → List Token → ℕ → Read → Type 0
+abbrev pub reading : Unit → ℕ → Scope → List Token → ℕ → Read → Type 0
 reading u d sc ts k out = items (stmt u d) d k false (nothing sc ts) ≡ Some out
 
-is_block : (u : Unit) (d : ℕ) (sc : Scope) (ts : List Token) (out : Read) → reading u d sc ts (length ts + 1) out → IsBlock u d sc ts out
+pub is_block : (u : Unit) (d : ℕ) (sc : Scope) (ts : List Token) (out : Read) → reading u d sc ts (length ts + 1) out → IsBlock u d sc ts out
 is_block u d sc ts out q =
     let p = pieces-read u (stmt u d) d (reads_pieces_only u d) (length ts + 1) false (nothing sc ts) out q in
     record {
@@ -31,7 +31,7 @@ is_block u d sc ts out q =
       program = ap (λ (n : ℕ). made (g.pieces_stmts p.trees sc) n (g.pieces_scope p.trees sc) out.rest) (omega arith) ∙ p.same;
     }
 
-is_read : (u : Unit) (d : ℕ) (sc : Scope) (ts : List Token) (out : Read) → IsBlock u d sc ts out → reading u d sc ts (length ts + 1) out
+pub is_read : (u : Unit) (d : ℕ) (sc : Scope) (ts : List Token) (out : Read) → IsBlock u d sc ts out → reading u d sc ts (length ts + 1) out
 is_read u d sc ts out b =
     let tail = mark brace_close b.closes ∷ out.rest in
     let whole = g.pieces_tokens b.trees ++ tail in
