@@ -1,6 +1,6 @@
 //! What stands at the front of the tokens.
 
-ghost use Rattle.std.specs.Prelude.{◌≡◌, ◌<◌, length, IfOk, IfSome, option_map};
+ghost use Rattle.std.specs.Prelude.{◌≡◌, ◌<◌, ◌^◌, length, IfOk, IfSome, option_map};
 ghost use Rattle.c_expressions.specs.ParseSteps as spec;
 ghost use Rattle.c_expressions.specs.ParseSteps.{Gives};
 
@@ -62,7 +62,8 @@ pub fn name_at(tokens: &[Token]) -> Option<(&Name, &[Token])>
 }
 
 fn natural(number: i32) -> Option<u32>
-    ensures { result ≡ spec.natural number }
+    ensures value { result ≡ spec.natural number }
+    ensures small { IfSome result (λ n. n < 2 ^ 31) }
 {
     if number < 0 {
         None
@@ -74,6 +75,7 @@ fn natural(number: i32) -> Option<u32>
 /// A number at the front, and the rest.
 pub fn number_at(tokens: &[Token]) -> Option<(u32, &[Token])>
     ensures value { option_map (λ x. (x.0, x.1.now)) result ≡ spec.number_at tokens.now }
+    ensures small { IfSome result (λ x. x.0 < 2 ^ 31) }
     ensures rest { IfSome result (λ x. length x.1.now < length tokens.now) }
 {
     match tokens {
