@@ -1,3 +1,5 @@
 pub mod UnitComplete
 pub mod UnitSound
 pub mod UnitLaws
+pub mod UnitTurns
+pub mod ParsedLaws

@@ -1,6 +1,6 @@
 -- Declarations of the grammar are read.
 use Rattle.std.specs.Prelude.{⊤}
-use Rattle.std.proofs.Common.{◌≡◌, ℕ, ℤ, pos, ◌+◌, ◌≤◌, cond, true, false, Bool, List, [], ◌∷◌, ◌++◌, length, map, Option, Some, None, refl, sym, ap, ap₂, ◌∙◌, subst, append_assoc, append-nil, arith}
+use Rattle.std.proofs.Common.{◌≡◌, ℕ, ℤ, ◌+◌, ◌≤◌, cond, true, false, Bool, List, [], ◌∷◌, ◌++◌, length, map, Option, Some, None, refl, sym, ap, ap₂, ◌∙◌, append_assoc, append-nil, arith}
 use Rattle.std.proofs.lemmas.List.{length-append}
 use Rattle.c_lang.specs.Names.{Bytes}
 use Rattle.c_lang.specs.declared.unit.Unit.{Unit}
@@ -10,7 +10,7 @@ use Rattle.c_lang.specs.declared.stmt.Kind.{Kind}
 use Rattle.c_lang.specs.declared.stmt.Kind.TheVariants as kind
 use Rattle.c_lexer.specs.declared.token.Token.{Token}
 use Rattle.c_lexer.specs.declared.token.Word.TheVariants as w
-use Rattle.c_expressions.specs.Tokens.{At, token, mark, keyword, round_open, round_close, brace_open, brace_close, semicolon, equals, int_key, void_key}
+use Rattle.c_expressions.specs.Tokens.{At, token, mark, keyword, round_open, round_close, brace_open, brace_close, semicolon, int_key, void_key}
 use Rattle.c_expressions.specs.Separated.{Separated, last, more, parts_of, separated_tokens, Each}
 use Rattle.c_expressions.specs.ParseSteps.{◌>>=◌, after, after_key, name_at, separated}
 use Rattle.c_expressions.proofs.SeparatedLaws.{all_added, reads_all_parts, size_fits}
@@ -18,9 +18,12 @@ use Rattle.c_statements.specs.Statements as g
 use Rattle.c_statements.specs.StatementReading.{Pointer, pointer_at, Read, made}
 use Rattle.c_statements.proofs.SideComplete.{pointer_again}
 use Rattle.c_statements.proofs.BlockLaws.{is_read}
-use Rattle.c_parser.specs.Units.{ParamTree, nameless, ParamsTree, several, HeadTree, SignedTree, plain, negative, NumberInit, ArrayInit, PointerInit, External, prototype, param_tokens, params_tokens, param_list, param_kind, param_name, param_refusals, all_refusals, IsNamed, AreNamed, signed_tokens, signed_value, number_init_tokens, array_init_tokens, pointer_init_tokens, external_tokens, external_height, IsExternal, Parts, values_of, target_of, named_param, add, with_array, with_pointer, with_proto, with_func, function_start}
+use Rattle.c_parser.specs.declared.parts.Parts.{Parts}
+use Rattle.c_parser.specs.declared.params.Param.{Param}
+use Rattle.c_parser.specs.declared.params.Params.{Params}
+use Rattle.c_parser.specs.Units.{ParamTree, nameless, ParamsTree, several, HeadTree, SignedTree, plain, negative, NumberInit, ArrayInit, PointerInit, External, prototype, param_tokens, params_tokens, param_list, param_kind, param_name, param_refusals, all_refusals, IsNamed, AreNamed, signed_tokens, signed_value, number_init_tokens, array_init_tokens, pointer_init_tokens, external_tokens, external_height, IsExternal, values_of, target_of, named_param, add, with_array, with_pointer, with_proto, with_func, function_start}
 use Rattle.c_parser.specs.Units as u
-use Rattle.c_parser.specs.UnitReading.{Param, Params, with_param, param_by, param, no_params, params_by, params_at, named_params, signed_at, value, ended, number_global, values_at, array_global, target_at, pointer_global, headed_by, headed, function_at, int_external, void_external, external}
+use Rattle.c_parser.specs.UnitReading.{with_param, param, no_params, params_by, params_at, named_params, signed_at, value, ended, number_global, values_at, array_global, target_at, pointer_global, headed_by, headed, function_at, int_external, void_external, external}
 
 -- ---- parameters
 
@@ -89,18 +92,22 @@ params_again (several ts) p c rest =
     ∙ ap (λ (r : Option (Params × List Token)). r >>= λ x. after round_close x.1 >>= λ rest. Some (x.0, rest)) read
     ∙ ap (λ (y : Params). Some (y, rest)) (added_params p ts no_params)
 
-each_named : (ts : Separated ParamTree) → Each IsNamed ts → named_params (map param_of (parts_of ts)) ≡ Some (map named_param (parts_of ts))
-each_named (last (nameless int)) h = absurd h
-each_named (last (u.number int at x)) h = refl
-each_named (last (u.pointer int q)) h = refl
-each_named (more (nameless int) at ts) h = absurd h.0
-each_named (more (u.number int n x) at ts) h = rw (each_named ts h.1) refl
-each_named (more (u.pointer int q) at ts) h = rw (each_named ts h.1) refl
+each_named : (ts : Separated ParamTree) (acc : List (Kind × Bytes)) → Each IsNamed ts → named_params acc (map param_of (parts_of ts)) ≡ Some (acc ++ map named_param (parts_of ts))
+each_named (last (nameless int)) acc h = absurd h
+each_named (last (u.number int at x)) acc h = refl
+each_named (last (u.pointer int q)) acc h = refl
+each_named (more (nameless int) at ts) acc h = absurd h.0
+each_named (more (u.number int n x) at ts) acc h =
+    let one = (kind.Int, x) ∷ [] in
+    each_named ts (acc ++ one) h.1 ∙ ap (λ (l : List (Kind × Bytes)). Some l) (append_assoc acc one (map named_param (parts_of ts)))
+each_named (more (u.pointer int q) at ts) acc h =
+    let one = (kind.Fp (g.arity q), q.name) ∷ [] in
+    each_named ts (acc ++ one) h.1 ∙ ap (λ (l : List (Kind × Bytes)). Some l) (append_assoc acc one (map named_param (parts_of ts)))
 
-pub named_again : (x : ParamsTree) → AreNamed x → named_params (map param_of (param_list x)) ≡ Some (map named_param (param_list x))
+pub named_again : (x : ParamsTree) → AreNamed x → named_params [] (map param_of (param_list x)) ≡ Some (map named_param (param_list x))
 named_again u.nothing h = refl
 named_again (u.void at) h = refl
-named_again (several ts) h = each_named ts h
+named_again (several ts) h = each_named ts [] h
 
 kind_is : (t : ParamTree) → (param_of t).kind ≡ param_kind t
 kind_is (nameless int) = refl

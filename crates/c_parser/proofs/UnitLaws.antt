@@ -1,12 +1,13 @@
 -- A unit is read exactly where it is in the grammar.
-use Rattle.std.proofs.Common.{◌≡◌, ℕ, zero, suc, ◌+◌, ◌<◌, ◌≤◌, List, [], ◌∷◌, ◌++◌, length, Option, Some, None, refl, sym, ap, ◌∙◌, subst, arith}
+use Rattle.std.proofs.Common.{◌≡◌, ℕ, zero, suc, ◌+◌, ◌<◌, ◌≤◌, max, List, [], ◌∷◌, ◌++◌, length, Option, Some, None, refl, sym, ap, ◌∙◌, subst, arith}
 use Rattle.std.proofs.lemmas.List.{length-append}
 use Rattle.c_lang.specs.declared.unit.Unit.{Unit}
 use Rattle.c_lang.specs.declared.program.Program.{Program}
 use Rattle.c_lexer.specs.declared.token.Token.{Token}
 use Rattle.c_expressions.specs.ParseSteps.{◌>>=◌}
 use Rattle.c_expressions.proofs.ExpressionSound.{bind_some, some_is}
-use Rattle.c_parser.specs.Units.{External, number, array, pointer, prototype, function, external_tokens, AreExternals, Parts, add, add_all, no_parts, unit_tokens, unit_height}
+use Rattle.c_parser.specs.declared.parts.Parts.{Parts}
+use Rattle.c_parser.specs.Units.{External, number, array, pointer, prototype, function, external_tokens, AreExternals, add, add_all, no_parts, unit_tokens, unit_height}
 use Rattle.c_parser.specs.Grammar.{program_of, Gram}
 use Rattle.c_parser.specs.UnitReading.{external, externals, unit_at}
 use Rattle.c_parser.proofs.UnitComplete.{external_again}
@@ -83,6 +84,17 @@ module _ (u : Unit) (d : ℕ) where
       let r = externals-read (length ts + 1) (no_parts u) ts a.0 a.1 in
       record { tree = r.tree; valid = r.valid; height_fits = r.high; written = r.parts; program = ap program_of r.same ∙ some_is (program_of a.0) p a.2 }
 
-  -- tokens are at most one program
-  pub one : (ts : List Token) (p q : Program) → Gram u d ts p → Gram u d ts q → p ≡ q
-  one ts p q a b = some_is p q (sym (is_read ts p a) ∙ is_read ts q b)
+  pub no_gram : (ts : List Token) → unit_at u d ts ≡ None → (p : Program) → Gram u d ts p → ⊥
+  no_gram ts none p gram = let read = is_read ts p gram in absurd cc
+
+  -- a program of one height is one of any greater height
+  raised : (e : ℕ) (ts : List Token) (p : Program) → d ≤ e → Gram u d ts p → Gram u e ts p
+  raised e ts p le gram =
+      let high = gram.height_fits in
+      record { tree = gram.tree; valid = gram.valid; height_fits = omega arith; written = gram.written; program = gram.program }
+
+-- tokens are at most one program
+pub one : (u : Unit) (d e : ℕ) (ts : List Token) (p q : Program) → Gram u d ts p → Gram u e ts q → p ≡ q
+one u d e ts p q a b =
+    let m = max d e in
+    some_is p q (sym (is_read u m ts p (raised u d m ts p (omega arith) a)) ∙ is_read u m ts q (raised u e m ts q (omega arith) b))

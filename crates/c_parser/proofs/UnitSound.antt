@@ -1,6 +1,6 @@
 -- Declarations that are read are in the grammar.
 use Rattle.std.specs.Prelude.{⊤}
-use Rattle.std.proofs.Common.{◌≡◌, ℕ, ℤ, zero, suc, pos, ◌+◌, ◌-ℤ◌, ◌≤◌, max, cond, eqb, true, false, Bool, List, [], ◌∷◌, ◌++◌, length, map, Option, Some, None, refl, sym, ap, ap₂, ◌∙◌, subst, append_assoc, arith, inl, inr}
+use Rattle.std.proofs.Common.{◌≡◌, ℕ, ℤ, pos, ◌+◌, ◌-ℤ◌, ◌≤◌, cond, eqb, true, false, Bool, List, [], ◌∷◌, ◌++◌, length, map, Option, Some, None, refl, sym, ap, ap₂, ◌∙◌, subst, append_assoc, arith, inl, inr}
 use Rattle.std.proofs.lemmas.Bool.{eqb-true}
 use Rattle.c_lang.specs.Names.{Bytes}
 use Rattle.c_lang.specs.declared.unit.Unit.{Unit}
@@ -21,9 +21,12 @@ use Rattle.c_statements.specs.Statements as g
 use Rattle.c_statements.specs.StatementReading.{Pointer, pointer_at, Read, nothing, items, stmt}
 use Rattle.c_statements.proofs.SideSound.{after_key-is, name_at-is, number_at-is, pointer-read}
 use Rattle.c_statements.proofs.BlockLaws.{is_block}
-use Rattle.c_parser.specs.Units.{ParamTree, nameless, ParamsTree, several, HeadTree, SignedTree, plain, negative, NumberInit, ArrayInit, PointerInit, External, prototype, param_tokens, params_tokens, param_list, param_kind, named_param, all_refusals, IsNamed, AreNamed, signed_tokens, signed_value, number_init_tokens, array_init_tokens, pointer_init_tokens, external_tokens, external_height, IsExternal, Parts, with_number, with_array, with_pointer, with_proto, with_func, start_value, values_of, target_of, body_start, function_start, add}
+use Rattle.c_parser.specs.declared.parts.Parts.{Parts}
+use Rattle.c_parser.specs.declared.params.Param.{Param}
+use Rattle.c_parser.specs.declared.params.Params.{Params}
+use Rattle.c_parser.specs.Units.{ParamTree, nameless, ParamsTree, several, HeadTree, SignedTree, plain, negative, NumberInit, ArrayInit, PointerInit, External, prototype, param_tokens, params_tokens, param_list, param_kind, named_param, all_refusals, IsNamed, AreNamed, signed_tokens, signed_value, number_init_tokens, array_init_tokens, pointer_init_tokens, external_tokens, external_height, IsExternal, with_number, with_array, with_pointer, with_proto, with_func, start_value, values_of, target_of, body_start, function_start, add}
 use Rattle.c_parser.specs.Units as u
-use Rattle.c_parser.specs.UnitReading.{Param, Params, with_param, param_by, param, no_params, params_by, params_at, named_params, signed_by, signed_at, value, ended, number_by, number_global, values_by, values_at, array_global, zero_at, target_by, start_by, target_at, pointer_global, headed_by, headed, function_at, named_by, int_by, int_external, void_external, external_by, external}
+use Rattle.c_parser.specs.UnitReading.{with_param, param_by, param, no_params, params_by, params_at, named_params, signed_by, signed_at, value, ended, number_by, number_global, values_by, values_at, array_global, zero_at, target_by, start_by, target_at, pointer_global, headed_by, headed, function_at, named_by, int_by, int_external, void_external, external_by, external}
 use Rattle.c_parser.proofs.UnitComplete.{param_of, add_param, added_params, params_of, kinds_are, add_value, added_values}
 
 -- ---- parameters
@@ -85,24 +88,24 @@ params-read : (p : Pos) (ts : List Token) (x : Params × List Token) → params_
 unfolding params_at
 params-read p ts x q = params_by-read p ts x (after round_close ts) (after_key void_key ts) refl refl q
 
-each_named-read : (ts : Separated ParamTree) (y : List (Kind × Bytes)) → named_params (map param_of (parts_of ts)) ≡ Some y → Each IsNamed ts × (map named_param (parts_of ts) ≡ y)
-each_named-read (last (nameless int)) y q = absurd cc
-each_named-read (last (u.number int at x)) y q = (tt, some_is _ y q)
-each_named-read (last (u.pointer int f)) y q = (tt, some_is _ y q)
-each_named-read (more (nameless int) at ts) y q = absurd cc
-each_named-read (more (u.number int n x) at ts) y q =
-    let a = bind_some (named_params (map param_of (parts_of ts))) (λ rest. Some ((kind.Int, x) ∷ rest)) y q in
-    let later = each_named-read ts a.0 a.1 in
-    ((tt, later.0), ap (λ (l : List (Kind × Bytes)). (kind.Int, x) ∷ l) later.1 ∙ some_is _ y a.2)
-each_named-read (more (u.pointer int f) at ts) y q =
-    let a = bind_some (named_params (map param_of (parts_of ts))) (λ rest. Some ((kind.Fp (g.arity f), f.name) ∷ rest)) y q in
-    let later = each_named-read ts a.0 a.1 in
-    ((tt, later.0), ap (λ (l : List (Kind × Bytes)). (kind.Fp (g.arity f), f.name) ∷ l) later.1 ∙ some_is _ y a.2)
+each_named-read : (ts : Separated ParamTree) (acc y : List (Kind × Bytes)) → named_params acc (map param_of (parts_of ts)) ≡ Some y → Each IsNamed ts × (acc ++ map named_param (parts_of ts) ≡ y)
+each_named-read (last (nameless int)) acc y q = absurd cc
+each_named-read (last (u.number int at x)) acc y q = (tt, some_is _ y q)
+each_named-read (last (u.pointer int f)) acc y q = (tt, some_is _ y q)
+each_named-read (more (nameless int) at ts) acc y q = absurd cc
+each_named-read (more (u.number int n x) at ts) acc y q =
+    let one = (kind.Int, x) ∷ [] in
+    let later = each_named-read ts (acc ++ one) y q in
+    ((tt, later.0), sym (append_assoc acc one (map named_param (parts_of ts))) ∙ later.1)
+each_named-read (more (u.pointer int f) at ts) acc y q =
+    let one = (kind.Fp (g.arity f), f.name) ∷ [] in
+    let later = each_named-read ts (acc ++ one) y q in
+    ((tt, later.0), sym (append_assoc acc one (map named_param (parts_of ts))) ∙ later.1)
 
-named-read : (x : ParamsTree) (y : List (Kind × Bytes)) → named_params (map param_of (param_list x)) ≡ Some y → AreNamed x × (map named_param (param_list x) ≡ y)
+named-read : (x : ParamsTree) (y : List (Kind × Bytes)) → named_params [] (map param_of (param_list x)) ≡ Some y → AreNamed x × (map named_param (param_list x) ≡ y)
 named-read u.nothing y q = (tt, some_is _ y q)
 named-read (u.void at) y q = (tt, some_is _ y q)
-named-read (several ts) y q = each_named-read ts y q
+named-read (several ts) y q = each_named-read ts [] y q
 
 -- ---- globals
 
@@ -309,7 +312,7 @@ module _ (unit : Unit) (d : ℕ) where
   unfolding function_at
   function-read at n o c b gives x tree a ts y q =
       let early = all_refusals at.pos (param_list tree) in
-      let names = bind_some (named_params (map param_of (param_list tree)))
+      let names = bind_some (named_params [] (map param_of (param_list tree)))
       (λ named. items (stmt unit d) d (length ts + 1) false (nothing (body_start named early) ts) >>= λ r. Some (func_of a at.pos gives x named r, r.rest)) y q in
       let all = named-read tree names.0 names.1 in
       let body = bind_some (items (stmt unit d) d (length ts + 1) false (nothing (body_start names.0 early) ts)) (λ r. Some (func_of a at.pos gives x names.0 r, r.rest)) y names.2 in

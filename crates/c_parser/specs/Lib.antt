@@ -2,3 +2,4 @@ pub mod Nesting
 pub mod Units
 pub mod Grammar
 pub mod UnitReading
+pub mod Parsed

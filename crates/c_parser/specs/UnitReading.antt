@@ -6,35 +6,35 @@ use Rattle.c_lang.specs.declared.unit.Pos.{Pos}
 use Rattle.c_lang.specs.declared.refusal.Refusal.{Refusal}
 use Rattle.c_lang.specs.declared.stmt.Kind.{Kind}
 use Rattle.c_lang.specs.declared.stmt.Kind.TheVariants as kind
+use Rattle.c_parser.specs.declared.parts.Parts.{Parts}
+use Rattle.c_parser.specs.declared.params.Param.{Param}
+use Rattle.c_parser.specs.declared.params.Params.{Params}
 use Rattle.c_lexer.specs.declared.token.Token.{Token}
 use Rattle.c_lexer.specs.declared.token.Word.{Word}
 use Rattle.c_lexer.specs.declared.token.Word.TheVariants as w
 use Rattle.c_expressions.specs.Tokens.{round_open, round_close, brace_open, brace_close, square_open, square_close, semicolon, equals, minus, int_key, void_key}
-use Rattle.c_expressions.specs.ParseSteps.{◌>>=◌, after, after_key, name_at, number_at, choose, separated}
+use Rattle.c_expressions.specs.ParseSteps.{◌>>=◌, after, after_key, name_at, number_at, separated}
 use Rattle.c_statements.specs.Scopes.{arity_refusals}
 use Rattle.c_statements.specs.StatementReading.{nothing, items, stmt, pointer_at}
 use Rattle.c_lang.specs.declared.program.Program.{Program}
 use Rattle.c_parser.specs.Grammar.{program_of}
-use Rattle.c_parser.specs.Units.{Parts, no_parts, with_proto, with_func, with_number, with_array, with_pointer, body_start}
+use Rattle.c_parser.specs.Units.{no_parts, with_proto, with_func, with_number, with_array, with_pointer, body_start}
 
 -- ---- heads
-
-pub record Param : Type 0 where
-  pub kind : Kind
-  pub name : Option Bytes
-
--- the parameters so far, and what is refused of them
-pub record Params : Type 0 where
-  pub list : List Param
-  pub early : List Refusal
 
 abbrev pub with_param : Params → Param → List Refusal → Params
 with_param acc x early = record { list = acc.list ++ x ∷ []; early = acc.early ++ early }
 
+abbrev pub int_param : Option Bytes → Param
+int_param name = record { kind = kind.Int; name = name }
+
+abbrev pub pointer_param : Pos → Params → List Token → Option (Params × List Token)
+pointer_param p acc ts = pointer_at ts >>= λ f. Some (with_param acc (record { kind = kind.Fp f.arity; name = Some f.name }) (arity_refusals p f.arity), f.rest)
+
 abbrev pub param_by : Pos → Params → List Token → Option (Bytes × List Token) → Option (List Token) → Option (Params × List Token)
-param_by p acc ts (Some x) o = Some (with_param acc (record { kind = kind.Int; name = Some x.0 }) [], x.1)
-param_by p acc ts None None = Some (with_param acc (record { kind = kind.Int; name = None }) [], ts)
-param_by p acc ts None (Some inside) = pointer_at ts >>= λ f. Some (with_param acc (record { kind = kind.Fp f.arity; name = Some f.name }) (arity_refusals p f.arity), f.rest)
+param_by p acc ts (Some x) o = Some (with_param acc (int_param (Some x.0)) [], x.1)
+param_by p acc ts None None = Some (with_param acc (int_param None) [], ts)
+param_by p acc ts None (Some inside) = pointer_param p acc ts
 
 unfoldable pub param : Pos → Params → List Token → Option (Params × List Token)
 param p acc ts = after_key int_key ts >>= λ rest. param_by p acc rest (name_at rest) (after round_open rest)
@@ -51,10 +51,10 @@ params_by p ts None None = separated (param p) (length ts + 1) no_params ts >>= 
 unfoldable pub params_at : Pos → List Token → Option (Params × List Token)
 params_at p ts = params_by p ts (after round_close ts) (after_key void_key ts)
 
--- all have names
-abbrev pub named_params : List Param → Option (List (Kind × Bytes))
-named_params [] = Some []
-named_params (x ∷ xs) = x.name >>= λ n. named_params xs >>= λ rest. Some ((x.kind, n) ∷ rest)
+-- with the parameters of the list, which all have names
+abbrev pub named_params : List (Kind × Bytes) → List Param → Option (List (Kind × Bytes))
+named_params acc [] = Some acc
+named_params acc (x ∷ xs) = x.name >>= λ n. named_params (acc ++ (x.kind, n) ∷ []) xs
 
 -- ---- globals
 
@@ -124,16 +124,19 @@ pointer_global a p ts = do
 
 -- ---- functions
 
+abbrev pub with_prototype : Parts → Pos → Bool → Bytes → Params → Parts
+with_prototype a p gives x params = with_proto a (record { name = x; params = map (λ (y : Param). y.kind) params.list; gives = gives; pos = p }) params.early
+
 module _ (u : Unit) (d : ℕ) where
   -- behind the `{`
   unfoldable pub function_at : Parts → Pos → Bool → Bytes → Params → List Token → Option (Parts × List Token)
   function_at a p gives x params ts = do
-    named ← named_params params.list
+    named ← named_params [] params.list
     r ← items (stmt u d) d (length ts + 1) false (nothing (body_start named params.early) ts)
     Some (with_func a (record { name = x; params = named; gives = gives; body = r.stmts; pos = p }) r.scope.early, r.rest)
 
   abbrev pub headed_by : Parts → Pos → Bool → Bytes → Params → Option (List Token) → Option (List Token) → Option (Parts × List Token)
-  headed_by a p gives x params (Some rest) body = Some (with_proto a (record { name = x; params = map (λ (y : Param). y.kind) params.list; gives = gives; pos = p }) params.early, rest)
+  headed_by a p gives x params (Some rest) body = Some (with_prototype a p gives x params, rest)
   headed_by a p gives x params None (Some inside) = function_at a p gives x params inside
   headed_by a p gives x params None None = None
 
@@ -146,8 +149,12 @@ module _ (u : Unit) (d : ℕ) where
   named_by a p x ts None (Some inside) = array_global a p x inside
   named_by a p x ts None None = number_global a p x ts
 
+  -- behind the name
+  abbrev pub named : Parts → Pos → Bytes → List Token → Option (Parts × List Token)
+  named a p x ts = named_by a p x ts (after round_open ts) (after square_open ts)
+
   abbrev pub int_by : Parts → Pos → List Token → Option (Bytes × List Token) → Option (Parts × List Token)
-  int_by a p ts (Some x) = named_by a p x.0 x.1 (after round_open x.1) (after square_open x.1)
+  int_by a p ts (Some x) = named a p x.0 x.1
   int_by a p ts None = pointer_global a p ts
 
   -- behind the `int`

@@ -1,5 +1,5 @@
 -- The grammar of a unit's declarations, by cases on trees that keep every token.
-use Rattle.std.specs.Prelude.{⊤, ℕ, ℤ, pos, ◌+◌, ◌-◌, ◌-ℤ◌, max, nat_lt, Bool, false, ◌||◌, ◌==◌, if◌then◌else◌, List, [], ◌∷◌, ◌++◌, map, length, replicate, Option, Some, None}
+use Rattle.std.specs.Prelude.{⊤, ℕ, ℤ, pos, ◌-◌, ◌-ℤ◌, max, nat_lt, Bool, false, ◌||◌, ◌==◌, if◌then◌else◌, List, [], ◌∷◌, ◌++◌, map, length, replicate, Option, Some, None}
 use Rattle.c_lang.specs.Names.{Bytes}
 use Rattle.c_lang.specs.declared.unit.Unit.{Unit}
 use Rattle.c_lang.specs.declared.unit.Pos.{Pos}
@@ -10,6 +10,7 @@ use Rattle.c_lang.specs.declared.program.Shape.TheVariants as shape
 use Rattle.c_lang.specs.declared.program.GlobalVar.{GlobalVar}
 use Rattle.c_lang.specs.declared.program.Proto.{Proto}
 use Rattle.c_lang.specs.declared.program.Func.{Func}
+use Rattle.c_parser.specs.declared.parts.Parts.{Parts}
 use Rattle.c_lexer.specs.declared.token.Token.{Token}
 use Rattle.c_lexer.specs.declared.token.Word.TheVariants as w
 use Rattle.c_expressions.specs.Tokens.{At, token, mark, keyword, round_open, round_close, brace_open, brace_close, square_open, square_close, semicolon, equals, minus, int_key, void_key}
@@ -175,17 +176,6 @@ AreExternals u [] = ⊤
 AreExternals u (x ∷ xs) = IsExternal u x × AreExternals u xs
 
 -- ---- the program
-
--- what the declarations so far have given: how many cells may still follow, and what is refused, by
--- the order in which globals, prototypes and functions are checked
-pub record Parts : Type 0 where
-  pub globals : List GlobalVar
-  pub protos : List Proto
-  pub funcs : List Func
-  pub room : ℕ
-  pub early_globals : List Refusal
-  pub early_protos : List Refusal
-  pub early_funcs : List Refusal
 
 abbrev pub with_global : Parts → GlobalVar → ℕ → List Refusal → Parts
 with_global a x cells early = record {

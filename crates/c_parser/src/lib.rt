@@ -1,4 +1,13 @@
-//! Reads a unit's program from its tokens.
+//! Reads a unit's program from its tokens. Which tokens are a program, and which one, is said in
+//! `specs/Grammar`, by cases on trees that keep every token.
 #![tactic(auto)]
 
 mod brackets;
+mod functions;
+mod globals;
+mod params;
+mod parser;
+mod parts;
+mod units;
+
+pub use parser::{one_program, parse};

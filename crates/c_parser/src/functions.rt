@@ -1,0 +1,147 @@
+//! Prototypes and functions, behind the opening bracket of their parameters.
+
+ghost use Rattle.std.specs.Prelude.{[], ◌≡◌, ◌<◌, ◌≤◌, ◌+◌, ◌^◌, length, map, IfOk};
+ghost use Rattle.c_expressions.specs.ParseSteps.{Gives};
+ghost use Rattle.c_statements.specs.Seen.{seen_scope};
+ghost use Rattle.c_parser.specs.UnitReading as spec;
+ghost use Rattle.c_parser.specs.Units as units;
+
+use crate::params::{Param, Params, params_at};
+use crate::parts::Parts;
+use c_expressions::front::skip;
+use c_expressions::parse_error::ParseError;
+use c_expressions::words;
+use c_lang::{Func, Kind, Name, Pos, Proto, Refusal, Unit};
+use c_lexer::Token;
+use c_statements::scope::{Scope, declare};
+use c_statements::statements::items;
+use indexmap::IndexSet;
+use sqlite_items::Items;
+use std::alloc::{AllocError, Global};
+
+// The parameters of a function, which all have names; `left` tokens are behind them, the next one
+// counted.
+fn named_params(
+    alloc: Global,
+    params: &[Param],
+    left: usize,
+) -> Result<Items<(Kind, Name)>, ParseError>
+    ensures { Gives (λ x. x) result (spec.named_params [] params.now) }
+{
+    let mut named = Items::new(alloc);
+    for param in params {
+        let Some(name) = &param.name else {
+            return Err(ParseError::Syntax(left));
+        };
+        named.push((param.kind, name.copy(alloc)?))?;
+    }
+    Ok(named)
+}
+
+// What is declared where the body of a function begins.
+fn body_start(
+    alloc: Global,
+    params: &[(Kind, Name)],
+    early: Items<Refusal>,
+) -> Result<Scope, AllocError>
+    ensures scope { IfOk result (λ x. seen_scope x ≡ units.body_start params.now early) }
+    ensures count { IfOk result (λ x. x.count ≡ 0) }
+{
+    let mut scope = Scope {
+        count: 0,
+        declared: IndexSet::new(alloc),
+        early,
+    };
+    for param in params {
+        scope = declare(scope, param.1.copy(alloc)?)?;
+    }
+    Ok(scope)
+}
+
+#[tactic(auto, unfolding(crate::specs::UnitReading::function_at))]
+fn function_at<'a>(
+    alloc: Global,
+    unit: Unit,
+    deep: u32,
+    parts: Parts,
+    pos: Pos,
+    gives: bool,
+    name: Name,
+    params: Params,
+    tokens: &'a [Token],
+) -> Result<(Parts, &'a [Token]), ParseError>
+    ensures read { Gives (λ x. (x.0, x.1.now)) result (spec.function_at unit deep parts pos gives name params tokens.now) }
+    ensures rest { IfOk result (λ x. length x.1.now ≤ length tokens.now) }
+{
+    let named = named_params(
+        alloc,
+        params.list.as_slice(),
+        tokens.len().saturating_add(1),
+    )?;
+    let scope = body_start(alloc, named.as_slice(), params.early)?;
+    let body = items(alloc, unit, deep, false, scope, tokens)?;
+    let scope = body.scope;
+    let func = Func {
+        name,
+        params: named,
+        gives,
+        body: body.stmts,
+        pos,
+    };
+    Ok((parts.with_func(func, scope.early)?, body.rest))
+}
+
+fn kinds_of(alloc: Global, params: &[Param]) -> Result<Items<Kind>, AllocError>
+    ensures { IfOk result (λ x. x ≡ map (λ y. y.kind) params.now) }
+{
+    let mut kinds = Items::new(alloc);
+    for param in params {
+        kinds.push(param.kind)?;
+    }
+    Ok(kinds)
+}
+
+fn prototype(
+    alloc: Global,
+    parts: Parts,
+    pos: Pos,
+    gives: bool,
+    name: Name,
+    params: Params,
+) -> Result<Parts, AllocError>
+    ensures { IfOk result (λ x. x ≡ spec.with_prototype parts pos gives name params) }
+{
+    let proto = Proto {
+        name,
+        params: kinds_of(alloc, params.list.as_slice())?,
+        gives,
+        pos,
+    };
+    parts.with_proto(proto, params.early)
+}
+
+/// A prototype or a function, behind the opening bracket of its parameters.
+#[tactic(auto, unfolding(crate::specs::UnitReading::headed))]
+pub fn headed<'a>(
+    alloc: Global,
+    unit: Unit,
+    deep: u32,
+    parts: Parts,
+    pos: Pos,
+    gives: bool,
+    name: Name,
+    tokens: &'a [Token],
+) -> Result<(Parts, &'a [Token]), ParseError>
+    ensures read { Gives (λ x. (x.0, x.1.now)) result (spec.headed unit deep parts pos gives name tokens.now) }
+    ensures rest { IfOk result (λ x. length x.1.now < length tokens.now) }
+{
+    let (params, rest) = params_at(alloc, pos, tokens)?;
+    if let Some(behind) = skip(words::SEMICOLON, rest) {
+        let parts = prototype(alloc, parts, pos, gives, name, params)?;
+        return Ok((parts, behind));
+    }
+    match skip(words::BRACE_OPEN, rest) {
+        Some(inside) => function_at(alloc, unit, deep, parts, pos, gives, name, params, inside),
+        None => Err(ParseError::Syntax(rest.len())),
+    }
+}

@@ -1,0 +1,251 @@
+//! Globals, behind their name or their pointer.
+
+ghost use Rattle.std.specs.Prelude.{[], ◌≡◌, ◌<◌, ◌≤◌, ◌+◌, ◌^◌, length, IfOk};
+ghost use Rattle.c_expressions.specs.ParseSteps.{Gives, separated};
+ghost use Rattle.c_parser.specs.UnitReading as spec;
+ghost use Rattle.c_parser.specs.Units as units;
+
+use crate::parts::{Parts, arity_refusals, array_refusals};
+use c_expressions::front::{after, name_at, number_at, skip};
+use c_expressions::parse_error::ParseError;
+use c_expressions::words;
+use c_lang::{GlobalVar, Name, Pos, Refusal, Shape};
+use c_lexer::Token;
+use c_statements::pointer::pointer_at;
+use sqlite_items::Items;
+use std::alloc::{AllocError, Global};
+
+// A number with or without a sign.
+#[tactic(auto, unfolding(crate::specs::UnitReading::signed_at))]
+fn signed_at(tokens: &[Token]) -> Result<(i32, &[Token]), ParseError>
+    ensures read { Gives (λ x. (x.0, x.1.now)) result (spec.signed_at tokens.now) }
+    ensures rest { IfOk result (λ x. length x.1.now < length tokens.now) }
+{
+    match skip(words::MINUS, tokens) {
+        Some(digits) => {
+            let Some((number, rest)) = number_at(digits) else {
+                return Err(ParseError::Syntax(digits.len()));
+            };
+            Ok((-(number as i32), rest))
+        }
+        None => {
+            let Some((number, rest)) = number_at(tokens) else {
+                return Err(ParseError::Syntax(tokens.len()));
+            };
+            Ok((number as i32, rest))
+        }
+    }
+}
+
+// Up to the semicolon.
+fn ended(parts: Parts, tokens: &[Token]) -> Result<(Parts, &[Token]), ParseError>
+    ensures read { Gives (λ x. (x.0, x.1.now)) result (spec.ended parts tokens.now) }
+    ensures rest { IfOk result (λ x. length x.1.now < length tokens.now) }
+{
+    let rest = after(words::SEMICOLON, tokens)?;
+    Ok((parts, rest))
+}
+
+fn with_number(
+    alloc: Global,
+    parts: Parts,
+    pos: Pos,
+    name: Name,
+    value: i32,
+) -> Result<Parts, AllocError>
+    ensures { IfOk result (λ x. x ≡ units.with_number parts pos name value) }
+{
+    let global = GlobalVar {
+        name,
+        shape: Shape::Int(value),
+        pos,
+    };
+    parts.with_global(global, 1, Items::new(alloc))
+}
+
+/// An `int`, behind its name.
+#[tactic(auto, unfolding(crate::specs::UnitReading::number_global))]
+pub fn number_global<'a>(
+    alloc: Global,
+    parts: Parts,
+    pos: Pos,
+    name: Name,
+    tokens: &'a [Token],
+) -> Result<(Parts, &'a [Token]), ParseError>
+    ensures read { Gives (λ x. (x.0, x.1.now)) result (spec.number_global parts pos name tokens.now) }
+    ensures rest { IfOk result (λ x. length x.1.now < length tokens.now) }
+{
+    match skip(words::EQUALS, tokens) {
+        Some(given) => {
+            let (value, rest) = signed_at(given)?;
+            ended(with_number(alloc, parts, pos, name, value)?, rest)
+        }
+        None => ended(with_number(alloc, parts, pos, name, 0)?, tokens),
+    }
+}
+
+fn value(values: Items<i32>, tokens: &[Token]) -> Result<(Items<i32>, &[Token]), ParseError>
+    ensures read { Gives (λ x. (x.0, x.1.now)) result (spec.value values tokens.now) }
+    ensures rest { IfOk result (λ x. length x.1.now < length tokens.now) }
+{
+    let (number, rest) = signed_at(tokens)?;
+    let mut all = values;
+    all.push(number)?;
+    Ok((all, rest))
+}
+
+fn values(alloc: Global, tokens: &[Token]) -> Result<(Items<i32>, &[Token]), ParseError>
+    ensures read { Gives (λ x. (x.0, x.1.now)) result (separated spec.value (length tokens.now + 1) [] tokens.now) }
+    ensures rest { IfOk result (λ x. length x.1.now < length tokens.now) }
+{
+    let mut all = Items::new(alloc);
+    let mut rest = tokens;
+    loop {
+        let next = value(all, rest)?;
+        match skip(words::COMMA, next.1) {
+            None => return Ok(next),
+            Some(others) => {
+                all = next.0;
+                rest = others;
+            }
+        }
+    }
+}
+
+// An array's initializers, behind its length.
+#[tactic(auto, unfolding(crate::specs::UnitReading::values_at))]
+fn values_at(alloc: Global, tokens: &[Token]) -> Result<(Items<i32>, &[Token]), ParseError>
+    ensures read { Gives (λ x. (x.0, x.1.now)) result (spec.values_at tokens.now) }
+    ensures rest { IfOk result (λ x. length x.1.now ≤ length tokens.now) }
+{
+    match skip(words::EQUALS, tokens) {
+        Some(given) => {
+            let inside = after(words::BRACE_OPEN, given)?;
+            let (all, closing) = values(alloc, inside)?;
+            Ok((all, after(words::BRACE_CLOSE, closing)?))
+        }
+        None => Ok((Items::new(alloc), tokens)),
+    }
+}
+
+// The initializers and then zeros, or nothing where the array is refused.
+fn kept_values(
+    alloc: Global,
+    early: &Items<Refusal>,
+    size: u32,
+    values: Items<i32>,
+) -> Result<Items<i32>, AllocError>
+    ensures { IfOk result (λ x. x ≡ units.kept_values early.now size values) }
+{
+    if !early.is_empty() {
+        return Ok(Items::new(alloc));
+    }
+    let missing = (size as usize).saturating_sub(values.len());
+    let zeros = vec![in alloc; 0; missing]?;
+    let mut kept = values;
+    kept.append(Items::from_vec(zeros))?;
+    Ok(kept)
+}
+
+fn with_array(
+    alloc: Global,
+    parts: Parts,
+    pos: Pos,
+    name: Name,
+    size: u32,
+    values: Items<i32>,
+) -> Result<Parts, AllocError>
+    ensures { IfOk result (λ x. x ≡ units.with_array parts pos name size values) }
+{
+    let early = array_refusals(alloc, pos, parts.room, size, values.len())?;
+    let kept = kept_values(alloc, &early, size, values)?;
+    let global = GlobalVar {
+        name,
+        shape: Shape::Arr(kept),
+        pos,
+    };
+    parts.with_global(global, size, early)
+}
+
+/// An array, behind its opening bracket.
+#[tactic(auto, unfolding(crate::specs::UnitReading::array_global))]
+pub fn array_global<'a>(
+    alloc: Global,
+    parts: Parts,
+    pos: Pos,
+    name: Name,
+    tokens: &'a [Token],
+) -> Result<(Parts, &'a [Token]), ParseError>
+    ensures read { Gives (λ x. (x.0, x.1.now)) result (spec.array_global parts pos name tokens.now) }
+    ensures rest { IfOk result (λ x. length x.1.now < length tokens.now) }
+{
+    let Some((size, closing)) = number_at(tokens) else {
+        return Err(ParseError::Syntax(tokens.len()));
+    };
+    let start = after(words::SQUARE_CLOSE, closing)?;
+    let (values, rest) = values_at(alloc, start)?;
+    ended(with_array(alloc, parts, pos, name, size, values)?, rest)
+}
+
+fn zero_at(tokens: &[Token]) -> Result<&[Token], ParseError>
+    ensures read { Gives (λ x. x.now) result (spec.zero_at tokens.now) }
+    ensures rest { IfOk result (λ x. length x.now < length tokens.now) }
+{
+    match number_at(tokens) {
+        Some((0, rest)) => Ok(rest),
+        _ => Err(ParseError::Syntax(tokens.len())),
+    }
+}
+
+// A pointer's initial value, behind the pointer.
+#[tactic(auto, unfolding(crate::specs::UnitReading::target_at))]
+fn target_at(alloc: Global, tokens: &[Token]) -> Result<(Option<Name>, &[Token]), ParseError>
+    ensures read { Gives (λ x. (x.0, x.1.now)) result (spec.target_at tokens.now) }
+    ensures rest { IfOk result (λ x. length x.1.now ≤ length tokens.now) }
+{
+    let Some(given) = skip(words::EQUALS, tokens) else {
+        return Ok((None, tokens));
+    };
+    match name_at(given) {
+        Some((name, rest)) => Ok((Some(name.copy(alloc)?), rest)),
+        None => Ok((None, zero_at(given)?)),
+    }
+}
+
+fn with_pointer(
+    alloc: Global,
+    parts: Parts,
+    pos: Pos,
+    name: Name,
+    arity: u8,
+    target: Option<Name>,
+) -> Result<Parts, AllocError>
+    ensures { IfOk result (λ x. x ≡ units.with_pointer parts pos name arity target) }
+{
+    let global = GlobalVar {
+        name,
+        shape: Shape::Fp(arity, target),
+        pos,
+    };
+    parts.with_global(global, 1, arity_refusals(alloc, pos, arity)?)
+}
+
+/// A pointer, behind its `int`.
+#[tactic(auto, unfolding(crate::specs::UnitReading::pointer_global))]
+pub fn pointer_global<'a>(
+    alloc: Global,
+    parts: Parts,
+    pos: Pos,
+    tokens: &'a [Token],
+) -> Result<(Parts, &'a [Token]), ParseError>
+    ensures read { Gives (λ x. (x.0, x.1.now)) result (spec.pointer_global parts pos tokens.now) }
+    ensures rest { IfOk result (λ x. length x.1.now < length tokens.now) }
+{
+    let pointer = pointer_at(tokens)?;
+    let (target, rest) = target_at(alloc, pointer.rest)?;
+    let name = pointer.name.copy(alloc)?;
+    ended(
+        with_pointer(alloc, parts, pos, name, pointer.arity, target)?,
+        rest,
+    )
+}
