@@ -3,3 +3,4 @@ pub mod UnitSound
 pub mod UnitLaws
 pub mod UnitTurns
 pub mod ParsedLaws
+pub mod WrittenLaws

@@ -3,3 +3,4 @@ pub mod Units
 pub mod Grammar
 pub mod UnitReading
 pub mod Parsed
+pub mod Written

@@ -5,9 +5,11 @@
 mod brackets;
 mod functions;
 mod globals;
+mod laws;
 mod params;
 mod parser;
 mod parts;
 mod units;
 
-pub use parser::{one_program, parse};
+pub use laws::{one_program, one_program_of_text, parsed_is_written};
+pub use parser::parse;

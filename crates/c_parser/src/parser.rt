@@ -1,4 +1,4 @@
-//! The parser's public call, and its laws.
+//! The parser's public call.
 
 ghost use Rattle.std.specs.Prelude.{◌≡◌, ◌≤◌, ◌<◌, ℕ, List, length, MatchResult};
 ghost use Rattle.c_lang.specs.declared.unit.Unit.{Unit};
@@ -48,8 +48,3 @@ pub fn parse(alloc: Global, unit: Unit, deep: u32, tokens: &[Token]) -> Result<P
         Err(ParseError::Syntax(left)) => Err(Fail::Refused(refusal(3, place(unit, left, tokens)))),
     }
 }
-
-/// No tokens are two programs, whatever their heights.
-pub fn one_program()
-    ensures { (unit : Unit) (d e : ℕ) (tokens : List Token) (some other : Program) → Gram unit d tokens some → Gram unit e tokens other → some ≡ other }
-{}

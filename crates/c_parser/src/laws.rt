@@ -1,0 +1,24 @@
+//! Laws of texts and their programs.
+
+ghost use Rattle.std.specs.Prelude.{◌≡◌, ℕ, List};
+ghost use Rattle.c_lang.specs.Names.{Bytes};
+ghost use Rattle.c_lang.specs.declared.unit.Unit.{Unit};
+ghost use Rattle.c_lang.specs.declared.program.Program.{Program};
+ghost use Rattle.c_lexer.specs.declared.token.Token.{Token};
+ghost use Rattle.c_parser.specs.Grammar.{Gram};
+ghost use Rattle.c_parser.specs.Written.{Parses, IsWritten};
+
+/// No tokens are two programs, whatever their heights.
+pub fn one_program()
+    ensures { (unit : Unit) (d e : ℕ) (tokens : List Token) (some other : Program) → Gram unit d tokens some → Gram unit e tokens other → some ≡ other }
+{}
+
+/// No text is two programs, whatever their heights.
+pub fn one_program_of_text()
+    ensures { (unit : Unit) (d e : ℕ) (bytes : Bytes) (some other : Program) → Parses unit d bytes some → Parses unit e bytes other → some ≡ other }
+{}
+
+/// The program of a text is written in the text's unit.
+pub fn parsed_is_written()
+    ensures { (unit : Unit) (deep : ℕ) (bytes : Bytes) (program : Program) → Parses unit deep bytes program → IsWritten unit program }
+{}
