@@ -5,6 +5,8 @@ mod declarations;
 mod expressions;
 mod program;
 mod statements;
+#[cfg(test)]
+mod tests;
 mod text;
 
 pub use program::program_text;
