@@ -1,0 +1,150 @@
+#!/usr/bin/env python3
+"""Measures the parser: time and memory over merged texts of 1, 2 and 4 MB.
+
+usage: bench/parser.py FOLDER
+
+FOLDER is made if need be. A copy of the crates is proved and built there, with two small programs that
+read a merged text from standard input: one cuts it into tokens, the other parses these too and prints how
+many functions there are. The parser's time is the difference of their processor times. Each text is run
+nine times with each program, and the quickest runs count, since other work on the machine only adds to
+them. Memory is that of the whole second program. This script ends with status 1 where a text of twice the
+size takes more than 2.3 times as long, where fewer than 5 MB are parsed a second, or where a byte of text
+takes more than 300 bytes of memory.
+"""
+import os, pathlib, shutil, subprocess, sys
+
+LEXES = '''//! Reads a merged text from standard input, and prints how many tokens it has.
+#![tactic(auto)]
+
+use c_lang::Unit;
+use c_lexer::lex;
+use std::io;
+use std::io::Read;
+
+fn main(rt: HostRuntime) -> io::Result<()> {
+    let mut text = Vec::new(rt.alloc());
+    rt.reader().read_to_end(&mut text)?;
+    let count = match lex(rt.alloc(), Unit::Merge, &text) {
+        Ok(tokens) => tokens.len(),
+        Err(_) => 0,
+    };
+    println!(rt; "{count}")?;
+    Ok(())
+}
+'''
+
+PARSES = '''//! Reads a merged text from standard input, and prints how many functions it has.
+#![tactic(auto)]
+
+use c_lang::Unit;
+use c_lexer::lex;
+use c_parser::parse;
+use std::alloc::Global;
+use std::io;
+use std::io::Read;
+
+fn count(alloc: Global, text: &[u8]) -> usize {
+    let Ok(tokens) = lex(alloc, Unit::Merge, text) else {
+        return 0;
+    };
+    match parse(alloc, Unit::Merge, 72, &tokens) {
+        Ok(program) => program.funcs.len(),
+        Err(_) => 0,
+    }
+}
+
+fn main(rt: HostRuntime) -> io::Result<()> {
+    let mut text = Vec::new(rt.alloc());
+    rt.reader().read_to_end(&mut text)?;
+    let functions = count(rt.alloc(), &text);
+    println!(rt; "{functions}")?;
+    Ok(())
+}
+'''
+
+CRATES = ["c_lang", "c_lexer", "c_expressions", "c_statements", "c_parser"]
+
+
+def function(i):
+    """The merged text of a function with a point, a loop and outputs."""
+    return (
+        f'#line {i} "old"\nint dsu_old_work{i}(int count, int limit) {{\n'
+        f'#line {i + 1} "old"\nif (dsu_now == 0) {{\n'
+        f'#line {i + 1} "old"\nint dsu_c = dsu_choice({i % 97 + 1});\n'
+        f'#line {i + 1} "old"\nif (dsu_c != 0) {{\n'
+        f'#line {i + 1} "old"\ndsu_now = 1;\n'
+        f'#line {i + 1} "old"\ndsu_xform_dsu_transform();\n}}\n}}\n'
+        f'#line {i + 2} "old"\nwhile (count + {i} * 3 <= limit && dsu_both_table[count - 1] != {i * 7919 % 2147483647}) {{\n'
+        f'#line {i + 3} "old"\ncount = count + 1;\n}}\n'
+        f'#line {i + 4} "old"\nclient_out(dsu_both_total - (count - {i}));\n'
+        f'#line {i + 5} "old"\nreturn count;\n}}\n'
+    ).encode()
+
+
+def merged(size):
+    """Whole functions, up to about this size."""
+    pieces, length = [b'#include "dsu.h"\n'], 0
+    while length < size:
+        pieces.append(function(len(pieces)))
+        length += len(pieces[-1])
+    return b"".join(pieces)
+
+
+def build(folder):
+    root = pathlib.Path(__file__).resolve().parent.parent
+    lines = [line for line in (root / "crates.txt").read_text().splitlines() if line.split(":")[0] in CRATES]
+    for crate in CRATES:
+        copy = folder / "crates" / crate
+        shutil.rmtree(copy, ignore_errors=True)
+        shutil.copytree(root / "crates" / crate, copy, ignore=shutil.ignore_patterns("out"))
+    lines += ["lex_bench: c_lang c_lexer sqlite_items", "parse_bench: c_lang c_lexer c_parser sqlite_items"]
+    (folder / "crates.txt").write_text("\n".join(lines) + "\n")
+    programs = []
+    for name, text in [("lex_bench", LEXES), ("parse_bench", PARSES)]:
+        source = folder / "crates" / name / "src"
+        source.mkdir(parents=True, exist_ok=True)
+        (source / "main.rt").write_text(text)
+        subprocess.run(["rt", "run"], cwd=source.parent, check=True, stdout=subprocess.DEVNULL, stderr=subprocess.DEVNULL)
+        programs.append(source.parent / "out" / name)
+    return programs
+
+
+def measure(program, path):
+    """What it counted, the quickest of nine runs in seconds, and the largest run's memory in bytes."""
+    times, memory, count = [], 0, 0
+    for _ in range(9):
+        with open(path, "rb") as text:
+            run = subprocess.Popen([program], stdin=text, stdout=subprocess.PIPE)
+            said = run.stdout.read()
+        _, status, used = os.wait4(run.pid, 0)
+        if status:
+            sys.exit(f"the program ended with {status}")
+        count = int(said)
+        times.append(used.ru_utime + used.ru_stime)
+        memory = max(memory, used.ru_maxrss * 1024)
+    return count, min(times), memory
+
+
+def main():
+    folder = pathlib.Path(sys.argv[1])
+    lexes, parses = build(folder)
+    good, before = True, None
+    for megabytes in [1, 2, 4]:
+        text = merged(megabytes * 1_000_000)
+        path = folder / "text"
+        path.write_bytes(text)
+        _, lexing, _ = measure(lexes, path)
+        count, whole, memory = measure(parses, path)
+        seconds = whole - lexing
+        speed, a_byte = len(text) / seconds / 1e6, memory / len(text)
+        ratio = seconds / before if before else None
+        print(
+            f"{len(text)} bytes, {count} functions: {seconds * 1000:.1f} ms, {speed:.0f} MB/s, "
+            f"{a_byte:.0f} bytes of memory a byte" + (f", {ratio:.2f} times the time of half the size" if ratio else "")
+        )
+        good = good and count > 0 and speed >= 5 and a_byte <= 300 and (ratio is None or ratio <= 2.3)
+        before = seconds
+    sys.exit(0 if good else 1)
+
+
+main()
