@@ -1,0 +1,37 @@
+ghost use Rattle.std.specs.Prelude.{◌≡◌};
+ghost use Rattle.linear_rows.specs.Sums.{all_fit, row_fits};
+
+use crate::number::is_small;
+use sqlite_items::Items;
+
+/// The sum of the parts is at most `bound`, or is equal to it. A part is an atom's number and its
+/// coefficient. A row is in form where the atoms ascend and no coefficient is 0.
+#[derive(Debug, Drop)]
+pub struct Row {
+    pub parts: Items<(u32, i128)>,
+    pub bound: i128,
+    pub equal: bool,
+}
+
+/// Why two rows have no sum.
+#[derive(Clone, Copy, Debug, PartialEq, Eq)]
+pub enum RowFail {
+    NoMemory,
+    /// A coefficient or the bound of the sum is past 2^100 in size.
+    Wide,
+}
+
+impl Row {
+    /// Whether every coefficient and the bound are at most 2^100 in size.
+    pub fn fits(&self) -> bool
+        ensures { result ≡ row_fits self.now }
+    {
+        all_small(self.parts.as_slice()) && is_small(self.bound)
+    }
+}
+
+fn all_small(parts: &[(u32, i128)]) -> bool
+    ensures { result ≡ all_fit parts.now }
+{
+    parts.iter().all(|part| is_small(part.1))
+}
