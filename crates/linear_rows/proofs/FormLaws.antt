@@ -82,3 +82,10 @@ dot-unit atom low (x ∷ xs) from = by_equal x.0 atom (λ b. x.1 *ℤ (if b then
 pub coefficient-sums : (t : ℤ) (left right : List Part) (atom : ℕ) → From 0 left → From 0 right → coefficient atom (sums t left right) ≡ coefficient atom left +ℤ t *ℤ coefficient atom right
 coefficient-sums t left right atom from other = sym (dot-unit atom 0 (sums t left right) (From-sums t left 0 right from other)) ∙ dot-sums (unit atom) t left right
     ∙ ap (λ z. z +ℤ t *ℤ dot (unit atom) right) (dot-unit atom 0 left from) ∙ ap (λ z. coefficient atom left +ℤ t *ℤ z) (dot-unit atom 0 right other)
+
+-- At the point that is 1 at its first atom alone, a row comes to its first coefficient.
+pub coefficient-first-unit : (x : Part) (xs : List Part) (low : ℕ) → From low (x ∷ xs) → dot (unit x.0) (x ∷ xs) ≡ x.1
+coefficient-first-unit x xs low from = dot-unit x.0 low (x ∷ xs) from ∙ same x.0 x.1 (coefficient x.0 xs)
+  where
+    same : (a : ℕ) (c e : ℤ) → (if nat_eq a a then c else e) ≡ c
+    same a c e = grind arith

@@ -1,5 +1,5 @@
-ghost use Rattle.std.specs.Prelude.{◌≡◌};
-ghost use Rattle.linear_rows.specs.Sums.{all_fit, row_fits};
+ghost use Rattle.std.specs.Prelude.{◌≡◌, true};
+ghost use Rattle.linear_rows.specs.Sums.{all_fit, row_fits, From, IsInForm};
 
 use crate::number::is_small;
 use sqlite_items::Items;
@@ -28,6 +28,29 @@ impl Row {
     {
         all_small(self.parts.as_slice()) && is_small(self.bound)
     }
+
+    /// Whether the row is seen to be in form: its atoms ascend and no coefficient is 0.
+    pub fn is_in_form(&self) -> bool
+        ensures { result ≡ true → IsInForm self.now }
+    {
+        ascend(self.parts.as_slice())
+    }
+}
+
+fn ascend(parts: &[(u32, i128)]) -> bool
+    ensures { result ≡ true → From 0 parts.now }
+{
+    let mut low: u64 = 0;
+    let mut at = 0;
+    while at < parts.len() {
+        let (atom, coefficient) = parts[at];
+        if (atom as u64) < low || coefficient == 0 {
+            return false;
+        }
+        low = atom as u64 + 1;
+        at += 1;
+    }
+    true
 }
 
 fn all_small(parts: &[(u32, i128)]) -> bool
