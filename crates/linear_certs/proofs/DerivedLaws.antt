@@ -1,19 +1,20 @@
 -- Entries come from the given rows.
-use Rattle.std.proofs.Common.{◌≡◌, ◌∙◌, ◌<◌, ◌≤◌, ℕ, ◌+◌, ◌/◌, ℤ, pos, negsuc, ◌+ℤ◌, ◌*ℤ◌, ◌≤ℤ◌, ◌<ℤ◌, List, [], ◌∷◌, ap, sym, refl, arith, subst, Bool, true, false, ◌&&◌, suc, zero, length, ◌⊎◌, inl, inr}
+use Rattle.std.proofs.Common.{◌≡◌, ◌∙◌, ℕ, ℤ, pos, ◌+ℤ◌, ◌*ℤ◌, ◌≤ℤ◌, ◌<ℤ◌, List, [], ◌∷◌, ap, sym, refl, arith, subst, Bool, true, false, ◌&&◌, suc, length, ◌⊎◌, inl, inr}
 use Rattle.std.specs.List.{All, list_all}
 use Rattle.std.proofs.lemmas.Int.{ints}
 use Rattle.std.proofs.lemmas.List.Elements.{All-head, All-tail}
-use Rattle.std.proofs.Math.IntN.{*ℤ-zero, zero-*ℤ}
+use Rattle.std.proofs.Math.IntN.{*ℤ-zero}
 use Rattle.linear_rows.specs.declared.row.Row.{Row}
 use Rattle.linear_rows.specs.Numbers.{fits, is_zero}
 use Rattle.linear_rows.specs.Sums.{Part, From, IsInForm, dot, plus_times, row_fits}
 use Rattle.linear_rows.specs.Combinations.{nothing, added, combination, AreAllowed, IsConstantFalse}
 use Rattle.linear_rows.proofs.Ring.{dist, dist-left, assoc, mul-le}
 use Rattle.linear_rows.proofs.SumLaws.{dot-sums}
-use Rattle.linear_rows.proofs.FormLaws.{From-sums, dot-unit, unit, coefficient-first-unit}
+use Rattle.linear_rows.proofs.FormLaws.{From-sums, unit, coefficient-first-unit}
 use Rattle.linear_certs.specs.declared.entry.Entry.{Entry}
 use Rattle.linear_certs.specs.Stages.{mixed, mixed_multipliers, multiple, combined, upper_times, lower_times, is_false, no_parts, is_negative}
-use Rattle.linear_certs.specs.Building.{weighed, IsDerived, IsGood, IsPair}
+use Rattle.linear_certs.specs.Building.{weighed, IsDerived, IsGood}
+use Rattle.linear_certs.proofs.Basics.{zero-plus, up-pos, parts-none, and-both, below-zero}
 
 four : (p q r s : ℤ) → (p +ℤ q) +ℤ (r +ℤ s) ≡ (p +ℤ r) +ℤ (q +ℤ s)
 four p q r s = omega (arith, ints)
@@ -58,9 +59,6 @@ allowed-mixed (r ∷ rs) a b (m ∷ ms) [] same up_a up_b one two = absurd (omeg
 allowed-mixed (r ∷ rs) a b (m ∷ ms) (n ∷ ns) same up_a up_b one two =
     (allowed-here r.equal a b m n up_a up_b one.0 two.0, allowed-mixed rs a b ms ns (omega arith) up_a up_b one.1 two.1)
 
-zero-plus : (z : ℤ) → pos 0 +ℤ z ≡ z
-zero-plus z = omega (arith, ints)
-
 pub dot-mixed : (point : ℕ → ℤ) (a b : ℤ) (left right : Row) → dot point (mixed a left b right).parts ≡ a *ℤ dot point left.parts +ℤ b *ℤ dot point right.parts
 dot-mixed point a b left right = dot-sums point b (multiple a left).parts right.parts ∙ ap (λ z. z +ℤ b *ℤ dot point right.parts) (dot-sums point a [] left.parts ∙ zero-plus (a *ℤ dot point left.parts))
 
@@ -80,9 +78,6 @@ mixed-derived rows a b left right up_a up_b one two =
           ∙ sym (weighed-mixed (λ row. row.bound) rows a b left.multipliers right.multipliers same);
       allowed = allowed-mixed rows a b left.multipliers right.multipliers same up_a up_b one.allowed two.allowed;
     }
-
-up-pos : (n : ℕ) → pos 0 ≤ℤ pos n
-up-pos n = omega (arith, ints)
 
 pub combined-derived : (rows : List Row) (atom : ℕ) (upper lower : Entry) → IsDerived rows upper → IsDerived rows lower → IsDerived rows (combined atom upper lower)
 combined-derived rows atom upper lower one two = mixed-derived rows (upper_times atom upper lower) (lower_times atom upper lower) upper lower (up-pos _) (up-pos _) one two
@@ -138,18 +133,6 @@ no-parts-left (x ∷ xs) from zero_is = absurd (nonzero x.1 from.1 (sym (coeffic
         cc-of : (b : Bool) → b ≡ false → b ≡ true → ⊥
         cc-of true h k = cc
         cc-of false h k = cc
-
-parts-none : (parts : List Part) → no_parts parts ≡ true → parts ≡ []
-parts-none [] h = refl
-parts-none (x ∷ xs) h = absurd cc
-
-and-both : (a b : Bool) → (a && b) ≡ true → (a ≡ true) × (b ≡ true)
-and-both true b h = (refl, h)
-and-both false b h = absurd cc
-
-below-zero : (z : ℤ) → is_negative z ≡ true → z <ℤ pos 0
-below-zero (pos n) h = absurd cc
-below-zero (negsuc n) h = omega (arith, ints)
 
 pub false-closes : (rows : List Row) (entry : Entry) → All IsInForm rows → IsDerived rows entry → is_false entry ≡ true → IsConstantFalse (combination rows entry.multipliers)
 false-closes rows entry in_form derived fails =

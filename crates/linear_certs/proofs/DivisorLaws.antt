@@ -1,18 +1,15 @@
 -- The greatest common divisor is the greatest number that divides both.
-use Rattle.std.proofs.Common.{◌≡◌, ◌∙◌, ◌<◌, ◌≤◌, ℕ, ◌+◌, ◌/◌, ◌%◌, ◌*◌, ap, sym, refl, arith, subst, Bool, true, false, suc, zero, ◌&&◌, nat_eq, if◌then◌else◌}
+use Rattle.std.proofs.Common.{◌≡◌, ◌<◌, ◌≤◌, ℕ, ◌%◌, sym, refl, arith, subst, Bool, true, false, suc, zero, ◌&&◌, nat_eq, if◌then◌else◌}
 use Rattle.std.specs.Int.{◌∣◌, IsGcd}
 use Rattle.std.proofs.lemmas.Nat.Gcd.{le_of_dvd, dvd_of_mod-eq-zero, mod-eq-zero_of_dvd, le_from_IsGcd}
 use Rattle.linear_certs.specs.Divisors.{common_below, gcd}
+use Rattle.linear_certs.proofs.Basics.{and-both}
 
 divides : (d n : ℕ) → d ∣ n → nat_eq (n % d) 0 ≡ true
 divides d n h = let e = mod-eq-zero_of_dvd d h in grind (arith, e)
 
 divided : (d n : ℕ) → nat_eq (n % d) 0 ≡ true → d ∣ n
 divided d n h = dvd_of_mod-eq-zero d (grind (arith, h))
-
-both-true : (a b : Bool) → (a && b) ≡ true → (a ≡ true) × (b ≡ true)
-both-true true b h = (refl, h)
-both-true false b h = absurd cc
 
 take_then : (b : Bool) (x y : ℕ) → b ≡ true → (if b then x else y) ≡ x
 take_then true x y h = refl
@@ -27,7 +24,7 @@ found : (most p n g : ℕ) → IsGcd p n g → 0 < g → g ≤ most → common_b
 unfolding common_below
 found zero p n g is up le = absurd (omega arith)
 found (suc most) p n g is up le = by_test (nat_eq (p % suc most) 0 && nat_eq (n % suc most) 0) (λ b. (if b then suc most else common_below most p n) ≡ g)
-    (λ sure. let both = both-true (nat_eq (p % suc most) 0) (nat_eq (n % suc most) 0) sure in
+    (λ sure. let both = and-both (nat_eq (p % suc most) 0) (nat_eq (n % suc most) 0) sure in
     let less = le_from_IsGcd p n g (suc most) is up (divided (suc most) p both.0) (divided (suc most) n both.1) in omega arith)
     (λ none. found most p n g is up (below-last most p n g is le none))
   where

@@ -1,7 +1,7 @@
 -- All stages, one behind the other.
-use Rattle.std.proofs.Common.{◌≡◌, ◌∙◌, ◌<◌, ◌≤◌, ℕ, ◌+◌, ◌-◌, ◌^◌, ℤ, pos, List, [], ◌∷◌, ◌++◌, ap, sym, refl, arith, subst, Bool, true, false, ◌||◌, suc, zero, length, get_or, length-append, Option, Some, None}
-use Rattle.std.specs.List.{All, list_any}
-use Rattle.std.proofs.lemmas.List.Elements.{All-cons, All-nil, All-head, All-tail, All-get_or}
+use Rattle.std.proofs.Common.{◌≡◌, ◌∙◌, ◌<◌, ◌≤◌, ℕ, ◌+◌, ◌-◌, ◌^◌, List, [], ◌∷◌, ◌++◌, ap, sym, refl, arith, subst, Bool, true, false, ◌||◌, suc, zero, length, Option, Some, None}
+use Rattle.std.specs.List.{All}
+use Rattle.std.proofs.lemmas.List.Elements.{All-cons, All-nil, All-head, All-tail}
 use Rattle.linear_rows.specs.declared.row.Row.{Row}
 use Rattle.linear_rows.specs.Sums.{From, IsInForm}
 use Rattle.linear_certs.specs.declared.entry.Entry.{Entry}
@@ -10,7 +10,6 @@ use Rattle.linear_certs.specs.Stages.{stage, first_stage, least_atom, eliminated
 use Rattle.linear_certs.specs.Answers.{NoFalseUpTo}
 use Rattle.linear_certs.specs.Building.{IsGood, IsBuilt, IsStageAt, AreStages}
 use Rattle.linear_certs.proofs.LeastLaws.{AtLeast, least-from, from-least, eliminated-from}
-use Rattle.linear_certs.proofs.StageLaws.{stage-next}
 
 -- How many atoms may be left: those from the least one on.
 abbrev pub left_over : Option ℕ → ℕ

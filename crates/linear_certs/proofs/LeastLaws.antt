@@ -1,22 +1,22 @@
 -- The least atom of a stage, and the stage behind it, which lacks it.
-use Rattle.std.proofs.Common.{◌≡◌, ◌∙◌, ◌<◌, ◌≤◌, ℕ, ◌+◌, ◌*◌, ◌/◌, ◌%◌, ℤ, pos, negsuc, ◌+ℤ◌, ◌*ℤ◌, List, [], ◌∷◌, ◌++◌, ap, sym, refl, arith, subst, Bool, true, false, ◌&&◌, suc, zero, length, get_or, drop, drop-cons, add-one, min, Option, Some, None, if◌then◌else◌, nat_eq, map, neg_ℤ}
+use Rattle.std.proofs.Common.{◌≡◌, ◌∙◌, ◌<◌, ◌≤◌, ℕ, ◌+◌, ◌*◌, ◌/◌, ◌%◌, ℤ, pos, negsuc, ◌+ℤ◌, ◌*ℤ◌, List, [], ◌∷◌, ap, sym, refl, arith, subst, Bool, true, false, ◌&&◌, suc, zero, length, get_or, drop, drop-cons, add-one, Option, Some, None, if◌then◌else◌, nat_eq, map, neg_ℤ}
 use Rattle.std.specs.Prelude.{filter, unsigned_abs}
 use Rattle.std.specs.List.{All, flat_map}
 use Rattle.std.specs.Int.{◌∣◌}
 use Rattle.std.proofs.lemmas.Int.{ints}
-use Rattle.std.proofs.lemmas.List.Elements.{All-append, All-cons, All-nil, All-head, All-tail, All-filter, All-map}
+use Rattle.std.proofs.lemmas.List.Elements.{All-append, All-cons, All-nil, All-head, All-tail}
 use Rattle.std.proofs.Math.IntN.{pos-*ℤ-pos, pos-*ℤ-negsuc}
 use Rattle.std.proofs.lemmas.Nat.Gcd.{dvd_of_mod-eq-zero, mod-eq-zero_of_dvd}
 use Rattle.std.proofs.Math.Nat.{one-dvd, mul_assoc, mul_comm}
-use Rattle.linear_rows.specs.declared.row.Row.{Row}
 use Rattle.linear_rows.specs.Numbers.{is_zero}
 use Rattle.linear_rows.specs.Sums.{Part, From, IsInForm, dot, coefficient}
-use Rattle.linear_rows.proofs.FormLaws.{From-lower, dot-unit, unit}
+use Rattle.linear_rows.proofs.FormLaws.{dot-unit, unit}
 use Rattle.linear_certs.specs.declared.entry.Entry.{Entry}
 use Rattle.linear_certs.specs.Divisors.{common_below, gcd}
-use Rattle.linear_certs.specs.Stages.{first_atom, smaller, least_atom, combined, mixed, upper_times, lower_times, size_in, is_upper, is_lower, lacks, is_positive, is_negative, pairs_of, eliminated}
+use Rattle.linear_certs.specs.Stages.{first_atom, smaller, least_atom, combined, upper_times, lower_times, is_upper, is_lower, lacks, is_positive, is_negative, pairs_of, eliminated}
 use Rattle.linear_certs.proofs.DerivedLaws.{dot-mixed, mixed-in-form}
 use Rattle.linear_certs.proofs.StageLaws.{kept_once-All}
+use Rattle.linear_certs.proofs.Basics.{drop-all}
 
 smaller-assoc : (a b c : Option ℕ) → smaller (smaller a b) c ≡ smaller a (smaller b c)
 smaller-assoc None b c = refl
@@ -33,12 +33,6 @@ pub least-next : (entries : List Entry) (i : ℕ) (e : Entry) (least : Option �
 least-next entries i e least h is so_far = so_far
     ∙ ap (λ l. smaller least (least_atom l)) (drop-cons entries i e h ∙ ap (λ x. x ∷ drop (suc i) entries) (sym is) ∙ ap (λ n. e ∷ drop n entries) (sym (add-one i)))
     ∙ sym (smaller-assoc least (first_atom e.row.parts) (least_atom (drop (i + 1) entries)))
-
-drop-all : {X : Type 0} (n : ℕ) (list : List X) → length list ≤ n → drop n list ≡ []
-drop-all zero [] h = refl
-drop-all (suc n) [] h = refl
-drop-all zero (x ∷ xs) h = absurd (omega arith)
-drop-all (suc n) (x ∷ xs) h = drop-all n xs (omega arith)
 
 pub least-end : (entries : List Entry) (i : ℕ) (least : Option ℕ) → length entries ≤ i → least_atom entries ≡ smaller least (least_atom (drop i entries)) → least ≡ least_atom entries
 least-end entries i least h so_far = sym (so_far ∙ ap (λ l. smaller least (least_atom l)) (drop-all i entries h) ∙ smaller-none least)

@@ -1,3 +1,4 @@
+pub mod Basics
 pub mod DivisorLaws
 pub mod MixLaws
 pub mod PairLaws

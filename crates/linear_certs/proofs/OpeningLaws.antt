@@ -1,21 +1,22 @@
 -- The inequalities of given rows.
-use Rattle.std.proofs.Common.{◌≡◌, ◌∙◌, ◌<◌, ◌≤◌, ℕ, ◌+◌, ℤ, pos, negsuc, ◌+ℤ◌, ◌*ℤ◌, ◌≤ℤ◌, List, [], ◌∷◌, ◌++◌, ap, sym, refl, arith, subst, Bool, true, false, ◌&&◌, suc, zero, length, get_or, take, ◌⊎◌, inl, inr, append_assoc, append-nil}
+use Rattle.std.proofs.Common.{◌≡◌, ◌∙◌, ◌<◌, ◌≤◌, ℕ, ◌+◌, ℤ, pos, negsuc, ◌+ℤ◌, ◌*ℤ◌, ◌≤ℤ◌, List, [], ◌∷◌, ◌++◌, ap, sym, refl, arith, true, suc, zero, length, get_or, take, ◌⊎◌, inl, inr, append_assoc, append-nil}
 use Rattle.std.specs.Prelude.{replicate}
-use Rattle.std.specs.List.{All, list_all}
+use Rattle.std.specs.List.{list_all}
 use Rattle.std.proofs.lemmas.Int.{ints}
 use Rattle.std.proofs.lemmas.List.{take_more}
-use Rattle.std.proofs.Math.IntN.{*ℤ-zero, zero-*ℤ, *ℤ_comm}
+use Rattle.std.proofs.Math.IntN.{zero-*ℤ, *ℤ_comm}
 use Rattle.linear_rows.specs.declared.row.Row.{Row}
 use Rattle.linear_rows.specs.Numbers.{fits}
-use Rattle.linear_rows.specs.Sums.{From, IsInForm, dot, row_fits}
+use Rattle.linear_rows.specs.Sums.{dot, row_fits}
 use Rattle.linear_rows.specs.Combinations.{AreAllowed}
 use Rattle.linear_rows.proofs.Ring.{times-one}
 use Rattle.linear_rows.proofs.SumLaws.{dot-sums}
 use Rattle.linear_rows.proofs.FormLaws.{From-sums}
 use Rattle.linear_certs.specs.declared.entry.Entry.{Entry}
-use Rattle.linear_certs.specs.Stages.{single, first_half, second_half, first_entry, second_entry, halves, opened, kept_once}
-use Rattle.linear_certs.specs.Building.{weighed, IsDerived, IsOpening, IsGiven}
+use Rattle.linear_certs.specs.Stages.{single, second_half, first_entry, second_entry, halves, opened, kept_once}
+use Rattle.linear_certs.specs.Building.{weighed, IsOpening, IsGiven}
 use Rattle.linear_certs.proofs.StageLaws.{kept_once-append}
+use Rattle.linear_certs.proofs.Basics.{and-true, zero-plus}
 
 nothing-here : (x d : ℤ) → d ≡ pos 0 → pos 0 *ℤ x +ℤ d ≡ pos 0
 nothing-here x d e = ap (λ z. z +ℤ d) (zero-*ℤ x) ∙ ap (λ z. pos 0 +ℤ z) e
@@ -58,10 +59,6 @@ allowed-single (r ∷ rs) zero k t d h = tt
 allowed-single (r ∷ rs) (suc n) zero t d h = (h, allowed-none rs n)
 allowed-single (r ∷ rs) (suc n) (suc k) t d h = (inl (omega (arith, ints)), allowed-single rs n k t d h)
 
-and-true : (a b : Bool) → a ≡ true → b ≡ true → (a && b) ≡ true
-and-true true b h k = k
-and-true false b h k = absurd cc
-
 fits-none : (n : ℕ) → list_all fits (replicate n (pos 0)) ≡ true
 fits-none zero = refl
 fits-none (suc n) = and-true (fits (pos 0)) _ refl (fits-none n)
@@ -89,9 +86,6 @@ first-opening rows k row given =
       narrow = given.narrow;
       small = fits-single (length rows) k (pos 1) refl;
     }
-
-zero-plus : (z : ℤ) → pos 0 +ℤ z ≡ z
-zero-plus z = omega (arith, ints)
 
 pub second-opening : (rows : List Row) (k : ℕ) (row : Row) → IsGiven rows k row → row.equal ≡ true → row_fits (second_half row) ≡ true → IsOpening rows (second_entry (length rows) k row)
 second-opening rows k row given equal narrow =

@@ -1,9 +1,10 @@
 -- The sum of a pair.
-use Rattle.std.proofs.Common.{◌≡◌, ◌∙◌, ◌<◌, ◌≤◌, ℕ, ◌+◌, ◌/◌, ℤ, pos, negsuc, ◌+ℤ◌, ◌*ℤ◌, List, [], ◌∷◌, ap, sym, refl, arith, subst, Bool, true, false, ◌&&◌, suc, zero, nat_eq, if◌then◌else◌, length, get_or, ◌^◌}
+use Rattle.std.proofs.Common.{◌≡◌, ◌∙◌, ◌<◌, ◌≤◌, ℕ, ℤ, pos, negsuc, List, [], ◌∷◌, ap, sym, refl, arith, Bool, true, false, suc, nat_eq, if◌then◌else◌, length, get_or, ◌^◌}
 use Rattle.std.specs.Prelude.{unsigned_abs}
 use Rattle.linear_rows.specs.declared.row.Row.{Row}
 use Rattle.linear_rows.specs.Numbers.{fits}
 use Rattle.linear_rows.specs.Sums.{Part, From, coefficient, all_fit, row_fits}
+use Rattle.linear_certs.proofs.Basics.{and-both}
 
 pub coefficient-absent : (atom low : ℕ) (parts : List Part) → atom < low → From low parts → coefficient atom parts ≡ pos 0
 coefficient-absent atom low [] h from = refl
@@ -37,10 +38,6 @@ coefficient-other atom (x ∷ xs) slice d is from other = skip (nat_eq x.0 atom)
 pub fits-size : (z : ℤ) → fits z ≡ true → unsigned_abs z ≤ 2 ^ 100
 fits-size (pos n) h = grind (arith, h)
 fits-size (negsuc n) h = grind (arith, h)
-
-and-both : (a b : Bool) → (a && b) ≡ true → (a ≡ true) × (b ≡ true)
-and-both true b h = (refl, h)
-and-both false b h = absurd cc
 
 pub coefficient-size : (atom : ℕ) (parts : List Part) → all_fit parts ≡ true → unsigned_abs (coefficient atom parts) ≤ 2 ^ 100
 coefficient-size atom [] h = omega arith

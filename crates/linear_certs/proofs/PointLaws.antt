@@ -1,11 +1,11 @@
 -- Numbers that are looked at part by part, and row by row.
-use Rattle.std.proofs.Common.{◌≡◌, ◌∙◌, ◌<◌, ◌≤◌, ℕ, ◌+◌, ℤ, pos, ◌+ℤ◌, ◌*ℤ◌, List, [], ◌∷◌, ◌++◌, ap, sym, refl, arith, subst, true, suc, zero, length, get_or, drop, take, drop-cons, add-one, take_all}
+use Rattle.std.proofs.Common.{◌≡◌, ◌∙◌, ◌<◌, ℕ, ◌+◌, ℤ, ◌+ℤ◌, ◌*ℤ◌, List, [], ◌∷◌, ◌++◌, ap, sym, arith, subst, length, get_or, drop, take, drop-cons, add-one}
 use Rattle.std.specs.List.{All}
 use Rattle.std.proofs.lemmas.Int.{ints}
 use Rattle.std.proofs.lemmas.List.{take_more}
 use Rattle.std.proofs.lemmas.List.Elements.{All-append, All-cons, All-nil}
 use Rattle.linear_rows.specs.declared.row.Row.{Row}
-use Rattle.linear_rows.specs.Sums.{Part, dot, Holds}
+use Rattle.linear_rows.specs.Sums.{Part, dot}
 
 move : (s p r w : ℤ) → w ≡ s +ℤ (p +ℤ r) → w ≡ (s +ℤ p) +ℤ r
 move s p r w e = omega (arith, ints)

@@ -1,26 +1,23 @@
 -- Where rows are refuted, no answer but Found and want of memory is right.
-use Rattle.std.proofs.Common.{◌≡◌, ◌∙◌, ◌<◌, ◌≤◌, ℕ, ◌+◌, ℤ, pos, negsuc, ◌+ℤ◌, ◌*ℤ◌, ◌≤ℤ◌, ◌<ℤ◌, List, [], ◌∷◌, ◌++◌, ap, sym, refl, arith, subst, Bool, true, false, ◌&&◌, ◌||◌, suc, zero, length, ◌⊎◌, inl, inr, if◌then◌else◌, Option, Some, None}
-use Rattle.std.specs.List.{All, list_any}
-use Rattle.std.proofs.lemmas.Int.{ints}
+use Rattle.std.proofs.Common.{◌≡◌, ◌<◌, ◌≤◌, ℕ, ℤ, pos, negsuc, ◌<ℤ◌, List, [], ◌∷◌, refl, arith, Bool, true, false, ◌||◌, suc, zero, length, inl, inr, if◌then◌else◌, Option, Some, None}
+use Rattle.std.specs.List.{All}
 use Rattle.std.proofs.lemmas.List.Elements.{All-append, All-cons, All-nil, All-head, All-tail}
 use Rattle.linear_rows.specs.declared.row.Row.{Row}
-use Rattle.linear_rows.specs.Sums.{Part, dot, Holds}
-use Rattle.linear_rows.specs.Combinations.{nothing, IsConstantFalse}
+use Rattle.linear_rows.specs.Sums.{Holds}
+use Rattle.linear_rows.specs.Combinations.{nothing}
 use Rattle.linear_rows.proofs.CombinationLaws.{plus-holds, nothing-holds, false-nowhere}
 use Rattle.linear_certs.specs.declared.entry.Entry.{Entry}
 use Rattle.linear_certs.specs.declared.leaf.Leaf.{Leaf}
 use Rattle.linear_certs.specs.declared.leaf.Leaf.TheVariants.{Found, Point, Wide, Far, Rows, NoMemory}
-use Rattle.linear_certs.specs.Stages.{multiple, mixed, combined, upper_times, lower_times, first_half, second_half, second_entries, single, halves, opened, first_stage, next, next_at, after, stage, least_atom, is_false, has_false, no_parts, is_negative, eliminated}
+use Rattle.linear_certs.specs.Stages.{multiple, mixed, first_half, second_half, second_entries, single, halves, opened, first_stage, next, next_at, after, stage, least_atom, is_false, has_false, no_parts, is_negative}
 use Rattle.linear_certs.specs.Answers.{IsLeaf, AreRefuted, IsFoundOrNoMemory, value_of}
 use Rattle.linear_certs.proofs.LeastLaws.{eliminated-All}
-use Rattle.linear_certs.proofs.StageLaws.{kept_once-All, after-next}
+use Rattle.linear_certs.proofs.StageLaws.{kept_once-All}
+use Rattle.linear_certs.proofs.Basics.{up-pos, parts-none, below-zero, and-both}
 
 -- The entry's row is true.
 abbrev IsTrueAt : (ℕ → ℤ) → ℤ → Entry → Type 0
 IsTrueAt point den entry = Holds point den entry.row
-
-up-pos : (n : ℕ) → pos 0 ≤ℤ pos n
-up-pos n = omega (arith, ints)
 
 mixed-holds : (point : ℕ → ℤ) (den : ℤ) (m n : ℕ) (left right : Row) → Holds point den left → Holds point den right → Holds point den (mixed (pos m) left (pos n) right)
 mixed-holds point den m n left right one two = plus-holds point den (pos n) (multiple (pos m) left) right (inl (up-pos n))
@@ -61,18 +58,6 @@ after-hold point den (suc k) entries all = after-hold point den k (next entries)
 pub stage-holds : (point : ℕ → ℤ) (den : ℤ) (rows : List Row) (k : ℕ) → All (Holds point den) rows → All (IsTrueAt point den) (stage rows k)
 stage-holds point den rows k all = after-hold point den k (first_stage rows)
     (kept_once-All (IsTrueAt point den) [] (opened (length rows) 0 rows) (All-nil (IsTrueAt point den)) (opened-hold point den (length rows) 0 rows all))
-
-parts-none : (parts : List Part) → no_parts parts ≡ true → parts ≡ []
-parts-none [] h = refl
-parts-none (x ∷ xs) h = absurd cc
-
-below-zero : (z : ℤ) → is_negative z ≡ true → z <ℤ pos 0
-below-zero (pos n) h = absurd cc
-below-zero (negsuc n) h = omega (arith, ints)
-
-and-both : (a b : Bool) → (a && b) ≡ true → (a ≡ true) × (b ≡ true)
-and-both true b h = (refl, h)
-and-both false b h = absurd cc
 
 by_or : {P : Type 0} (a b : Bool) → (a || b) ≡ true → (a ≡ true → P) → (b ≡ true → P) → P
 by_or true b h one two = one refl

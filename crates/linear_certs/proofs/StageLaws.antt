@@ -1,6 +1,6 @@
 -- Entries kept once, one after the other.
-use Rattle.std.proofs.Common.{◌≡◌, ◌∙◌, ◌<◌, ◌≤◌, ℕ, ◌+◌, ℤ, pos, List, [], ◌∷◌, ◌++◌, ap, sym, refl, arith, subst, Bool, true, false, suc, zero, length, get_or, take, drop, map, length-append, append_assoc, append-nil, take_all, if◌then◌else◌, Result, Ok, Err, Option, Some, None}
-use Rattle.std.specs.Prelude.{filter, OnOk, IfOk, is_err}
+use Rattle.std.proofs.Common.{◌≡◌, ◌∙◌, ◌<◌, ◌≤◌, ℕ, ◌+◌, List, [], ◌∷◌, ◌++◌, ap, sym, refl, arith, subst, Bool, true, false, suc, zero, length, get_or, take, drop, map, length-append, take_all, if◌then◌else◌, Result, Ok, Err, Some}
+use Rattle.std.specs.Prelude.{filter, OnOk, is_err}
 use Rattle.std.specs.List.{All, Contains, flat_map}
 use Rattle.std.proofs.lemmas.List.{take_more, map-append, take-append-drop}
 use Rattle.std.proofs.lemmas.List.Elements.{filter-append, All-append, All-cons, All-nil, All-head, All-tail, All-get_or}

@@ -1,16 +1,11 @@
 -- Partial sums, one row after the other.
-use Rattle.std.proofs.Common.{◌≡◌, ◌∙◌, ◌<◌, ◌≤◌, ℕ, ◌+◌, ℤ, pos, List, [], ◌∷◌, ap, sym, refl, arith, subst, Bool, true, false, ◌&&◌, suc, zero, length, drop, get_or, drop-cons, add-one}
+use Rattle.std.proofs.Common.{◌≡◌, ◌∙◌, ◌<◌, ◌≤◌, ℕ, ◌+◌, ℤ, pos, List, [], ◌∷◌, ap, sym, refl, arith, Bool, true, false, ◌&&◌, suc, zero, length, drop, get_or}
 use Rattle.std.specs.List.{list_all}
 use Rattle.linear_rows.specs.declared.row.Row.{Row}
 use Rattle.linear_rows.specs.Numbers.{fits}
 use Rattle.linear_rows.specs.Sums.{row_fits, plus_times}
 use Rattle.linear_rows.specs.Combinations.{all_sums_fit}
-
-drop-row : (at : ℕ) (rows : List Row) (d : Row) → at < length rows → drop at rows ≡ get_or rows at d ∷ drop (at + 1) rows
-drop-row at rows d h = drop-cons rows at d h ∙ ap (λ n. get_or rows at d ∷ drop n rows) (sym (add-one at))
-
-drop-number : (at : ℕ) (list : List ℤ) → at < length list → drop at list ≡ get_or list at (pos 0) ∷ drop (at + 1) list
-drop-number at list h = drop-cons list at (pos 0) h ∙ ap (λ n. get_or list at (pos 0) ∷ drop n list) (sym (add-one at))
+use Rattle.linear_certs.proofs.Basics.{drop-all, drop-next}
 
 both-fit : (a b c : Bool) → a ≡ true → b ≡ true → ((a && b) && c) ≡ c
 both-fit true true c h k = refl
@@ -36,8 +31,8 @@ pub sums-next : (whole : Bool) (sum : Row) (rows : List Row) (ms : List ℤ) (at
 sums-next whole sum rows ms at row h same small narrow is so_far =
     let m = get_or ms at (pos 0) in
     let m_fits = number-fits at ms (omega arith) small in
-    so_far ∙ ap (λ l. all_sums_fit sum l (drop at ms)) (drop-row at rows row h ∙ ap (λ r. r ∷ drop (at + 1) rows) (sym is))
-    ∙ ap (λ l. all_sums_fit sum (row ∷ drop (at + 1) rows) l) (drop-number at ms (omega arith))
+    so_far ∙ ap (λ l. all_sums_fit sum l (drop at ms)) (drop-next at rows row h ∙ ap (λ r. r ∷ drop (at + 1) rows) (sym is))
+    ∙ ap (λ l. all_sums_fit sum (row ∷ drop (at + 1) rows) l) (drop-next at ms (pos 0) (omega arith))
     ∙ both-fit (row_fits sum) (fits m) (all_sums_fit (plus_times sum m row) (drop (at + 1) rows) (drop (at + 1) ms)) narrow m_fits
 
 wide-first : (a b c : Bool) → a ≡ false → ((a && b) && c) ≡ false
@@ -48,12 +43,6 @@ pub sums-wide : (sum : Row) (rows : List Row) (ms : List ℤ) → row_fits sum �
 sums-wide sum [] ms wide = wide
 sums-wide sum (r ∷ rs) [] wide = wide
 sums-wide sum (r ∷ rs) (m ∷ ms) wide = wide-first (row_fits sum) (fits m) (all_sums_fit (plus_times sum m r) rs ms) wide
-
-drop-all : {X : Type 0} (n : ℕ) (list : List X) → length list ≤ n → drop n list ≡ []
-drop-all zero [] h = refl
-drop-all (suc n) [] h = refl
-drop-all zero (x ∷ xs) h = absurd (omega arith)
-drop-all (suc n) (x ∷ xs) h = drop-all n xs (omega arith)
 
 pub sums-end : (whole : Bool) (sum : Row) (rows : List Row) (ms : List ℤ) (at : ℕ) → length rows ≤ at → row_fits sum ≡ true → whole ≡ all_sums_fit sum (drop at rows) (drop at ms) → whole ≡ true
 sums-end whole sum rows ms at h narrow so_far = so_far ∙ ap (λ l. all_sums_fit sum l (drop at ms)) (drop-all at rows h) ∙ narrow

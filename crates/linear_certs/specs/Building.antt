@@ -1,5 +1,5 @@
 -- What the parts of the code answer.
-use Rattle.std.specs.Prelude.{◌≡◌, ◌≤◌, ◌<◌, ◌≢◌, ℕ, ◌+◌, zero, suc, ℤ, pos, ◌+ℤ◌, ◌*ℤ◌, List, [], ◌∷◌, ◌++◌, Bool, true, false, ◌&&◌, Option, Some, None, Result, Ok, Err, length, get_or, ⊤, Vec}
+use Rattle.std.specs.Prelude.{◌≡◌, ◌<◌, ℕ, suc, ℤ, pos, ◌+ℤ◌, ◌*ℤ◌, List, [], ◌∷◌, true, false, ◌&&◌, Some, None, Result, Ok, Err, length, get_or, ⊤, Vec}
 use Rattle.std.specs.declared.alloc.Global.{Global}
 use Rattle.std.specs.List.{All, Contains, list_all}
 use Rattle.linear_rows.specs.declared.row.Row.{Row}
@@ -11,7 +11,7 @@ use Rattle.linear_rows.specs.Combinations.{AreAllowed}
 use Rattle.linear_certs.specs.declared.entry.Entry.{Entry}
 use Rattle.linear_certs.specs.declared.elimination.Stage.{Stage}
 use Rattle.linear_certs.specs.declared.elimination.Elimination.{Elimination}
-use Rattle.linear_certs.specs.Stages.{multiple, mixed, mixed_multipliers, combined, is_false, is_upper, is_lower, least_atom, stage}
+use Rattle.linear_certs.specs.Stages.{is_negative, multiple, mixed, mixed_multipliers, combined, is_false, least_atom, stage}
 use Rattle.linear_certs.specs.Wide.{numbers_fit}
 use Rattle.linear_certs.specs.Answers.{NoFalseUpTo}
 
@@ -25,6 +25,11 @@ abbrev pub IsNumber : ℤ → Result ℤ RowFail → Type 0
 IsNumber exact (Ok number) = (number ≡ exact) × (fits exact ≡ true)
 IsNumber exact (Err Wide) = fits exact ≡ false
 IsNumber exact (Err NoMemory) = ⊤
+
+-- Wide only where both numbers are at least 0, or both are below 0.
+abbrev pub IsPast : ℤ → ℤ → RowFail → Type 0
+IsPast m n NoMemory = ⊤
+IsPast m n Wide = is_negative m ≡ is_negative n
 
 abbrev pub IsMixedList : ℤ → List ℤ → ℤ → List ℤ → Result (Vec ℤ Global) RowFail → Type 0
 IsMixedList a left b right (Ok sums) = (sums.items ≡ mixed_multipliers a left b right) × (list_all fits sums.items ≡ true)

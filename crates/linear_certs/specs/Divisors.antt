@@ -1,5 +1,5 @@
 -- Greatest common divisors.
-use Rattle.std.specs.Prelude.{ℕ, suc, zero, ◌%◌, ◌/◌, ◌&&◌, if◌then◌else◌, nat_eq}
+use Rattle.std.specs.Prelude.{ℕ, suc, zero, ◌%◌, ◌&&◌, if◌then◌else◌, nat_eq}
 
 -- The greatest number from 1 to `most` that divides both, and 1 where `most` is 0.
 unfoldable pub common_below : ℕ → ℕ → ℕ → ℕ

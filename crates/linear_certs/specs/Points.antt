@@ -1,6 +1,6 @@
 -- The point of the stages, and how large its numbers may become.
-use Rattle.std.specs.Prelude.{◌≡◌, ◌≢◌, ◌≤◌, ◌<◌, ℕ, ◌+◌, ◌*◌, ◌^◌, zero, suc, ℤ, pos, ◌+ℤ◌, ◌*ℤ◌, ◌<ℤ◌, List, [], ◌∷◌, ◌++◌, map, filter, length, Bool, true, false, Option, Some, None, nat_eq, if◌then◌else◌, max, unsigned_abs, ◌⊎◌}
-use Rattle.std.specs.List.{All, Contains, list_any, flat_map}
+use Rattle.std.specs.Prelude.{◌≡◌, ◌≤◌, ◌<◌, ℕ, ◌+◌, ◌*◌, ◌^◌, ℤ, pos, ◌*ℤ◌, ◌<ℤ◌, List, [], ◌∷◌, filter, length, Some, nat_eq, if◌then◌else◌, unsigned_abs, ◌⊎◌}
+use Rattle.std.specs.List.{All, Contains, list_any}
 use Rattle.std.specs.Int.{◌∣◌}
 use Rattle.linear_rows.specs.declared.row.Row.{Row}
 use Rattle.linear_rows.specs.Sums.{Part, dot, Holds}

@@ -1,5 +1,5 @@
 -- Pairs that are too large to be combined.
-use Rattle.std.specs.Prelude.{◌≡◌, ℕ, zero, suc, ℤ, List, [], ◌∷◌, Bool, true, false, ◌&&◌, Option, Some, length}
+use Rattle.std.specs.Prelude.{◌≡◌, ℕ, List, Bool, true, false, ◌&&◌, Some}
 use Rattle.std.specs.List.{Contains, list_all}
 use Rattle.linear_rows.specs.Numbers.{fits}
 use Rattle.linear_rows.specs.declared.row.Row.{Row}

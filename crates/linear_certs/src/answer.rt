@@ -29,7 +29,8 @@ fn eliminate(alloc: Global, rows: &[Row]) -> Result<Elimination, Leaf>
 /// pair, and no stage up to it more than 20,000 rows, the answer is `Found` or `NoMemory`.
 ///
 /// The point is the one of the stages, computed in 128 bits and checked against the rows. `NoMemory`
-/// also comes where a number of it is past 128 bits, and where a product of multipliers is.
+/// also comes where a number of it is past 128 bits, and where the multipliers of an equality have
+/// products past 128 bits that may cancel. `Far` doesn't come.
 pub fn refute(alloc: Global, rows: &[Row]) -> Leaf
     requires in_form { All IsInForm rows.now }
     requires narrow { All (λ row. row_fits row ≡ true) rows.now }

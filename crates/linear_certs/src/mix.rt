@@ -1,11 +1,11 @@
-ghost use Rattle.std.specs.Prelude.{◌≡◌, ◌+ℤ◌, ◌*ℤ◌, ℤ, pos, length, true, false, IfErr};
+ghost use Rattle.std.specs.Prelude.{◌≡◌, ◌+ℤ◌, ◌*ℤ◌, ◌≤ℤ◌, ℤ, pos, length, true, false, IfErr};
 ghost use Rattle.std.specs.List.{list_all};
 ghost use Rattle.linear_rows.specs.Numbers.{fits, kept};
 ghost use Rattle.linear_rows.specs.Sums.{row_fits, plus_times};
 ghost use Rattle.linear_rows.specs.Added.{IsAdded};
 ghost use Rattle.linear_rows.specs.Combinations.{nothing};
 ghost use Rattle.linear_certs.specs.Stages.{multiple, mixed, mixed_multipliers};
-ghost use Rattle.linear_certs.specs.Building.{IsMixedRow, IsMixedList, IsNumber};
+ghost use Rattle.linear_certs.specs.Building.{IsMixedRow, IsMixedList, IsNumber, IsPast};
 
 use linear_rows::{Row, RowFail, add_times};
 use sqlite_items::Items;
@@ -59,16 +59,30 @@ fn narrow_sum(first: i128, second: i128) -> Result<i128, RowFail>
     }
 }
 
+/// What a sum is whose first or second product is past 128 bits: past 2^100 where both numbers have
+/// one sign. Else the products may cancel, and it isn't known.
+fn past_128_bits(m: i128, n: i128) -> RowFail
+    ensures { IsPast m n result }
+{
+    if (m < 0) == (n < 0) {
+        RowFail::Wide
+    } else {
+        RowFail::NoMemory
+    }
+}
+
 /// `a * m + b * n`. `Wide` comes only where it is past 2^100 in size, and `NoMemory` only where a
-/// product is past 128 bits.
+/// product is past 128 bits and the products may cancel.
 fn mixed_number(a: i128, m: i128, b: i128, n: i128) -> Result<i128, RowFail>
+    requires a_up { pos 0 ≤ℤ a }
+    requires b_up { pos 0 ≤ℤ b }
     ensures { IsNumber (a *ℤ m +ℤ b *ℤ n) result }
 {
     let Some(first) = a.checked_mul(m) else {
-        return Err(RowFail::NoMemory);
+        return Err(past_128_bits(m, n));
     };
     let Some(second) = b.checked_mul(n) else {
-        return Err(RowFail::NoMemory);
+        return Err(past_128_bits(m, n));
     };
     narrow_sum(first, second)
 }
@@ -81,7 +95,9 @@ pub(crate) fn mixed_list(
     b: i128,
     right: &[i128],
 ) -> Result<Vec<i128>, RowFail>
-    requires { length left.now ≡ length right.now }
+    requires count { length left.now ≡ length right.now }
+    requires a_up { pos 0 ≤ℤ a }
+    requires b_up { pos 0 ≤ℤ b }
     ensures { IsMixedList a left.now b right.now result }
 {
     let mut sums = Vec::new(alloc);

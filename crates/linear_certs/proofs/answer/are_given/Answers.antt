@@ -1,6 +1,5 @@
-use Rattle.std.proofs.Common.{◌≡◌, true, arith, sym, subst, take_all}
+use Rattle.std.proofs.Common.{◌≡◌, true, arith, subst, take_all}
 use Rattle.std.specs.List.{All}
-use Rattle.linear_rows.specs.declared.row.Row.{Row}
 use Rattle.linear_rows.specs.Sums.{IsInForm, row_fits}
 use Rattle.linear_certs.proofs.PointLaws.{hold-next}
 use Rattle.linear_certs.proofs.answer.are_given.Goals as goal

@@ -1,4 +1,4 @@
-use Rattle.std.proofs.Common.{rules, ◌≡◌}
+use Rattle.std.proofs.Common.{rules}
 use Rattle.linear_certs.specs.Answers.{IsLeaf}
 use Rattle.linear_certs.proofs.RefutedLaws.{refuted-leaf}
 use Rattle.linear_certs.proofs.answer.refute.Goals as goal

@@ -1,4 +1,4 @@
-use Rattle.std.proofs.Common.{rules, ◌≡◌, ◌∙◌, ap, sym, subst, List, ℤ}
+use Rattle.std.proofs.Common.{rules, ◌≡◌, sym, subst}
 use Rattle.linear_certs.specs.Answers.{IsRefutation}
 use Rattle.linear_certs.proofs.DerivedLaws.{false-closes}
 use Rattle.linear_certs.proofs.closing.found.Goals as goal

@@ -1,7 +1,6 @@
-use Rattle.std.proofs.Common.{rules, ◌≡◌, ◌∙◌, ◌+◌, ◌≤◌, ℤ, pos, ap, sym, subst, arith, true, false, length, get_or, drop, of_z, to_z, FitsSigned}
+use Rattle.std.proofs.Common.{rules, ◌≡◌, ◌∙◌, ◌+◌, pos, ap, sym, subst, arith, false, get_or, drop, FitsSigned}
 use Rattle.std.specs.Int.{w128}
 use Rattle.std.proofs.lemmas.Int.{to_z-of_z}
-use Rattle.linear_rows.specs.declared.row.Row.{Row}
 use Rattle.linear_rows.specs.Sums.{row_fits, plus_times}
 use Rattle.linear_rows.specs.Combinations.{nothing, all_sums_fit}
 use Rattle.linear_certs.proofs.SumsFitLaws.{sums-next, sums-wide}

@@ -1,11 +1,11 @@
-use Rattle.std.proofs.Common.{rules, ◌≡◌, ◌∙◌, ◌<◌, ◌^◌, ◌+◌, ◌++◌, ◌∷◌, [], Some, ap, sym, subst, arith, length, add-one, suc, zero, length-append, refl}
+use Rattle.std.proofs.Common.{rules, ◌≡◌, ◌∙◌, ◌<◌, ◌^◌, ◌++◌, ◌∷◌, [], Some, ap, sym, subst, arith, length, suc}
 use Rattle.std.specs.List.{All}
 use Rattle.linear_certs.specs.declared.elimination.Stage.{Stage}
-use Rattle.linear_certs.specs.Stages.{stage, least_atom, first_stage, eliminated}
+use Rattle.linear_certs.specs.Stages.{stage, least_atom, eliminated}
 use Rattle.linear_certs.specs.Answers.{NoFalseUpTo}
 use Rattle.linear_certs.specs.Building.{IsGood, AreStages, IsStageAt, IsBuilt}
 use Rattle.linear_certs.proofs.StageLaws.{stage-next, on-ok-of}
-use Rattle.linear_certs.proofs.EliminationLaws.{left_over, built-here, stages-push, none-next, first-none, next-smaller, length-push}
+use Rattle.linear_certs.proofs.EliminationLaws.{built-here, stages-push, none-next, first-none, next-smaller, length-push}
 use Rattle.linear_certs.proofs.elimination.eliminate_all.Goals as goal
 
 pub loop-atom-init : goal.loop-atom-init

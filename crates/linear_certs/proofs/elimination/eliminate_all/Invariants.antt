@@ -1,4 +1,4 @@
-use Rattle.std.proofs.Common.{◌≡◌, ℕ, ◌-◌, ◌^◌, length, Option, Some, None}
+use Rattle.std.proofs.Common.{◌≡◌, length}
 use Rattle.std.specs.List.{All}
 use Rattle.linear_certs.specs.Stages.{stage, least_atom}
 use Rattle.linear_certs.specs.Answers.{NoFalseUpTo}

@@ -1,5 +1,4 @@
-use Rattle.std.proofs.Common.{◌≡◌, ◌∙◌, ap, sym, subst, length}
-use Rattle.linear_certs.specs.Stages.{first_entry}
+use Rattle.std.proofs.Common.{sym, subst}
 use Rattle.linear_certs.specs.Building.{IsOpening}
 use Rattle.linear_certs.proofs.OpeningLaws.{first-opening}
 use Rattle.linear_certs.proofs.given.open_first.Goals as goal

@@ -1,4 +1,3 @@
-use Rattle.std.proofs.Common.{◌≡◌}
 use Rattle.linear_certs.proofs.OpeningLaws.{opened-step}
 use Rattle.linear_certs.proofs.given.open_rows.Goals as goal
 

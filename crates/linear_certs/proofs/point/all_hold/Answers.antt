@@ -1,4 +1,4 @@
-use Rattle.std.proofs.Common.{rules, ◌≡◌, true, arith, ap, sym, subst, to_z, of_z, take_all, take}
+use Rattle.std.proofs.Common.{◌≡◌, true, arith, subst, to_z, of_z, take_all}
 use Rattle.std.specs.List.{All}
 use Rattle.std.specs.Int.{w128}
 use Rattle.std.proofs.lemmas.Int.{to_z-of_z}

@@ -1,4 +1,4 @@
-use Rattle.std.proofs.Common.{◌≡◌, take}
+use Rattle.std.proofs.Common.{take}
 use Rattle.std.specs.List.{All}
 use Rattle.linear_rows.specs.Sums.{Holds}
 use Rattle.linear_certs.specs.Answers.{value_of}

@@ -1,5 +1,3 @@
-use Rattle.std.proofs.Common.{◌≡◌, ◌++◌, List}
-use Rattle.linear_certs.specs.declared.entry.Entry.{Entry}
 use Rattle.linear_certs.specs.Stages.{pairs_of}
 use Rattle.linear_certs.proofs.StageLaws.{kept-step, pairs-append, member-pair}
 use Rattle.linear_certs.proofs.stage.add_pairs.Goals as goal

@@ -1,8 +1,7 @@
-use Rattle.std.proofs.Common.{◌≡◌, ◌<◌, ◌≤◌, ◌+◌, ◌++◌, List, length, arith, refl, sym, subst, take, [], suc, ap}
+use Rattle.std.proofs.Common.{◌<◌, ◌+◌, length, arith, refl, sym, subst, [], suc}
 use Rattle.std.specs.Prelude.{filter}
-use Rattle.std.specs.List.{flat_map, Contains}
-use Rattle.linear_certs.specs.declared.entry.Entry.{Entry}
-use Rattle.linear_certs.specs.Stages.{pairs_of, is_upper, kept_once, lacks, eliminated, stage}
+use Rattle.std.specs.List.{flat_map}
+use Rattle.linear_certs.specs.Stages.{pairs_of, is_upper, kept_once, lacks, eliminated}
 use Rattle.linear_certs.proofs.StageLaws.{kept-step, uppers-append, stage-longer, stage-whole, stage-next}
 use Rattle.linear_certs.proofs.stage.add_uppers.Goals as goal
 

@@ -1,7 +1,6 @@
-use Rattle.std.proofs.Common.{◌≡◌, ◌++◌, List, []}
+use Rattle.std.proofs.Common.{[]}
 use Rattle.std.specs.Prelude.{filter}
 use Rattle.std.proofs.lemmas.List.Elements.{filter-append}
-use Rattle.linear_certs.specs.declared.entry.Entry.{Entry}
 use Rattle.linear_certs.specs.Stages.{lacks}
 use Rattle.linear_certs.proofs.StageLaws.{kept-step}
 use Rattle.linear_certs.proofs.stage.lacking.Goals as goal
