@@ -1,4 +1,4 @@
-ghost use Rattle.std.specs.Prelude.{◌≡◌, true, IfOk, IfErr, List};
+ghost use Rattle.std.specs.Prelude.{◌≡◌, true, false, IfOk, IfErr, List};
 ghost use Rattle.std.specs.List.{All};
 ghost use Rattle.linear_rows.specs.declared.row.Row.{Row};
 ghost use Rattle.linear_rows.specs.Sums.{IsInForm, row_fits};
@@ -51,13 +51,17 @@ pub fn refuted_rows()
     ensures { (rows : List Row) (leaf : Leaf) → IsLeaf rows leaf → AreRefuted rows → IsFoundOrNoMemory leaf }
 {}
 
-/// Whether the rows are seen to be as `refute` wants them.
+/// Whether the rows are as `refute` wants them.
 pub fn are_given(rows: &[Row]) -> bool
     ensures in_form { result ≡ true → All IsInForm rows.now }
     ensures narrow { result ≡ true → All (λ row. row_fits row ≡ true) rows.now }
+    ensures no { result ≡ false → All IsInForm rows.now → All (λ row. row_fits row ≡ true) rows.now → ⊥ }
 {
     for row in rows {
-        if !row.is_in_form() || !row.fits() {
+        if !row.is_in_form() {
+            return false;
+        }
+        if !row.fits() {
             return false;
         }
     }

@@ -1,4 +1,4 @@
-ghost use Rattle.std.specs.Prelude.{◌≡◌, true};
+ghost use Rattle.std.specs.Prelude.{◌≡◌, true, false};
 ghost use Rattle.linear_rows.specs.Sums.{all_fit, row_fits, From, IsInForm};
 
 use crate::number::is_small;
@@ -29,16 +29,18 @@ impl Row {
         all_small(self.parts.as_slice()) && is_small(self.bound)
     }
 
-    /// Whether the row is seen to be in form: its atoms ascend and no coefficient is 0.
+    /// Whether the row is in form: its atoms ascend and no coefficient is 0.
     pub fn is_in_form(&self) -> bool
-        ensures { result ≡ true → IsInForm self.now }
+        ensures yes { result ≡ true → IsInForm self.now }
+        ensures no { result ≡ false → IsInForm self.now → ⊥ }
     {
         ascend(self.parts.as_slice())
     }
 }
 
 fn ascend(parts: &[(u32, i128)]) -> bool
-    ensures { result ≡ true → From 0 parts.now }
+    ensures yes { result ≡ true → From 0 parts.now }
+    ensures no { result ≡ false → From 0 parts.now → ⊥ }
 {
     let mut low: u64 = 0;
     let mut at = 0;

@@ -9,7 +9,7 @@ loop-row-preserved c =
     let form : c.is_in_form.result ≡ true = grind (arith, c.if-not-is_in_form.false) in
     let narrow : c.fits.result ≡ true = grind (arith, c.if-not-fits.false) in
     let inv = c.loop-row.invariant in (
-      hold-next IsInForm c.args.rows.now c.loop-row.row-index c.row-item.result c.loop-row-test.true c.row-item.is inv.0 (c.is_in_form.ensures form),
+      hold-next IsInForm c.args.rows.now c.loop-row.row-index c.row-item.result c.loop-row-test.true c.row-item.is inv.0 (c.is_in_form.ensures.yes form),
       hold-next (λ row. row_fits row ≡ true) c.args.rows.now c.loop-row.row-index c.row-item.result c.loop-row-test.true c.row-item.is inv.1 (subst (λ b. b ≡ true) c.fits.ensures narrow),
     )
 
