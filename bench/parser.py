@@ -99,14 +99,15 @@ def build(folder):
         shutil.copytree(root / "crates" / crate, copy, ignore=shutil.ignore_patterns("out"))
     lines += ["lex_bench: c_lang c_lexer sqlite_items", "parse_bench: c_lang c_lexer c_parser sqlite_items"]
     (folder / "crates.txt").write_text("\n".join(lines) + "\n")
-    programs = []
-    for name, text in [("lex_bench", LEXES), ("parse_bench", PARSES)]:
+    texts = {"lex_bench": LEXES, "parse_bench": PARSES}
+    for name, text in texts.items():
         source = folder / "crates" / name / "src"
         source.mkdir(parents=True, exist_ok=True)
         (source / "main.rt").write_text(text)
-        subprocess.run(["rt", "run"], cwd=source.parent, check=True, stdout=subprocess.DEVNULL, stderr=subprocess.DEVNULL)
-        programs.append(source.parent / "out" / name)
-    return programs
+    for name in texts:
+        crate = folder / "crates" / name
+        subprocess.run(["rt", "run"], cwd=crate, check=True, stdout=subprocess.DEVNULL, stderr=subprocess.DEVNULL)
+    return [folder / "crates" / name / "out" / name for name in texts]
 
 
 def measure(program, path):

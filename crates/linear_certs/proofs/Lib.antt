@@ -1,0 +1,12 @@
+pub mod Basics
+pub mod DivisorLaws
+pub mod MixLaws
+pub mod PairLaws
+pub mod DerivedLaws
+pub mod SumsFitLaws
+pub mod StageLaws
+pub mod LeastLaws
+pub mod EliminationLaws
+pub mod OpeningLaws
+pub mod PointLaws
+pub mod RefutedLaws

@@ -1,0 +1,6 @@
+pub mod Divisors
+pub mod Stages
+pub mod Wide
+pub mod Points
+pub mod Answers
+pub mod Building
