@@ -1,0 +1,5 @@
+pub mod Symbols
+pub mod Trees
+pub mod Names
+pub mod Truth
+pub mod Replacing

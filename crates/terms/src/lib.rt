@@ -1,0 +1,11 @@
+//! Formulas over whole numbers and arrays: their truth, the names in them, and what they become
+//! where a name is replaced.
+#![tactic(auto)]
+
+pub mod fact;
+pub mod form;
+pub mod sym;
+
+pub use fact::Fact;
+pub use form::{ArrayTerm, Form, Term};
+pub use sym::Sym;
