@@ -1,0 +1,4 @@
+pub mod Choices
+pub mod TreeLemmas
+pub mod NameLaws
+pub mod ReplacingLaws

@@ -49,10 +49,10 @@ abbrev pub fact_names : FactTree → List Occurrence
 fact_names (plain f) = form_names f
 fact_names (all x lo hi f) = term_names lo ++ (term_names hi ++ filter (λ o. not (is_number x o)) (form_names f))
 
--- whether one of the names is the one that the fact binds
+-- whether the number that the fact binds is among the names
 abbrev pub captures : FactTree → List Occurrence → Bool
 captures (plain f) names = false
-captures (all x lo hi f) names = list_any (λ o. same_sym x (symbol o)) names
+captures (all x lo hi f) names = list_any (is_number x) names
 
 -- each name of a list once, at its first place
 abbrev pub first_occurrences : List Sym → List Sym

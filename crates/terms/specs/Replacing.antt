@@ -1,8 +1,9 @@
 -- Names replaced in formulas, all at once.
-use Rattle.std.specs.Prelude.{if◌then◌else◌}
+use Rattle.std.specs.Prelude.{◌≡◌, false, [], ◌∷◌, if◌then◌else◌}
 use Rattle.terms.specs.declared.sym.Sym.{Sym}
 use Rattle.terms.specs.Symbols.{same_sym}
 use Rattle.terms.specs.Trees.{TermTree, number, name, plus, minus, times, divided, remainder, read, truth, ArrayTree, array, stored, FormTree, always, never, at_most, equal, denied, both, either, FactTree, plain, all}
+use Rattle.terms.specs.Names.{as_number, term_names, array_names, captures}
 use Rattle.terms.specs.Truth.{Interpretation, term_at, array_at}
 
 -- what stands in for each name
@@ -53,3 +54,8 @@ replaced_fact c (all x lo hi f) = all x (replaced_term c lo) (replaced_term c hi
 -- the interpretation that gives each name what stands in for it
 abbrev pub changed : Change → Interpretation → Interpretation
 changed c v = record { value = λ x. term_at v (c.number x); element = λ x. array_at v (c.array x) }
+
+-- nothing that the change puts in has the number that the fact binds
+pub record Avoids (c : Change) (f : FactTree) : Type 0 where
+  pub numbers : (x : Sym) → captures f (as_number x ∷ []) ≡ false → captures f (term_names (c.number x)) ≡ false
+  pub arrays : (x : Sym) → captures f (array_names (c.array x)) ≡ false

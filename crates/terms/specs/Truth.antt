@@ -1,9 +1,10 @@
 -- What terms are worth and when formulas are true. Numbers are whole and have no bound; a quotient is
 -- rounded toward zero, and one by 0 is 0.
-use Rattle.std.specs.Prelude.{ℤ, pos, ◌+ℤ◌, ◌-ℤ◌, ◌*ℤ◌, ◌≤ℤ◌, ◌<ℤ◌, Bool, true, false, not, ◌&&◌, ◌||◌, int_le, int_div, if◌then◌else◌, IsTrue, List, All}
+use Rattle.std.specs.Prelude.{ℤ, pos, ◌+ℤ◌, ◌-ℤ◌, ◌*ℤ◌, ◌≤ℤ◌, ◌<ℤ◌, Bool, true, false, not, ◌&&◌, ◌||◌, int_le, int_div, if◌then◌else◌, IsTrue, ◌≡◌}
 use Rattle.std.specs.Ordering.{int_eq}
 use Rattle.terms.specs.declared.sym.Sym.{Sym}
 use Rattle.terms.specs.Symbols.{same_sym}
+use Rattle.terms.specs.Names.{Occurrence, as_number, as_array}
 use Rattle.terms.specs.Trees.{TermTree, number, name, plus, minus, times, divided, remainder, read, truth, ArrayTree, array, stored, FormTree, always, never, at_most, equal, denied, both, either, FactTree, plain, all}
 
 -- what each name stands for: a number, and an array as its value at each index
@@ -56,3 +57,8 @@ abbrev mutual
 abbrev pub FactAt : Interpretation → FactTree → Type 0
 FactAt v (plain f) = IsTrue (form_at v f)
 FactAt v (all x lo hi f) = (n : ℤ) → term_at v lo ≤ℤ n → n <ℤ term_at v hi → IsTrue (form_at (with_value v x n) f)
+
+-- two interpretations give a name the same number, or the same array
+abbrev pub AgreesAt : Interpretation → Interpretation → Occurrence → Type 0
+AgreesAt v w (as_number x) = v.value x ≡ w.value x
+AgreesAt v w (as_array x) = (k : ℤ) → v.element x k ≡ w.element x k
