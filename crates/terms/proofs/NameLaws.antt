@@ -29,8 +29,8 @@ module _ (v w : Interpretation) where
     array_at-agree (stored a i t) k h =
         let parts : All (AgreesAt v w) (term_names i ++ term_names t) = All-right (AgreesAt v w) (array_names a) (term_names i ++ term_names t) h in
         λ j. if int_eq (term_at-agree i (All-left (AgreesAt v w) (term_names i) (term_names t) parts) j) k
-            then term_at-agree t (All-right (AgreesAt v w) (term_names i) (term_names t) parts) j
-            else array_at-agree a k (All-left (AgreesAt v w) (array_names a) (term_names i ++ term_names t) h) j
+        then term_at-agree t (All-right (AgreesAt v w) (term_names i) (term_names t) parts) j
+        else array_at-agree a k (All-left (AgreesAt v w) (array_names a) (term_names i ++ term_names t) h) j
 
     pub form_at-agree : (f : FormTree) → All (AgreesAt v w) (form_names f) → form_at v f ≡ form_at w f
     form_at-agree always h = refl
@@ -63,22 +63,22 @@ All-but test P Q go [] h = All-nil Q
 All-but test P Q go (x ∷ xs) h = All-cons Q x xs
     (go x (λ e. All-head P x (filter (λ y. not (test y)) xs) (subst (λ b. All P (cond (not b) (x ∷ filter (λ y. not (test y)) xs) (filter (λ y. not (test y)) xs))) e h)))
     (All-but test P Q go xs (by_bool (test x)
-        (λ e. subst (λ b. All P (cond (not b) (x ∷ filter (λ y. not (test y)) xs) (filter (λ y. not (test y)) xs))) e h)
-        (λ e. All-tail P x (filter (λ y. not (test y)) xs) (subst (λ b. All P (cond (not b) (x ∷ filter (λ y. not (test y)) xs) (filter (λ y. not (test y)) xs))) e h))))
+    (λ e. subst (λ b. All P (cond (not b) (x ∷ filter (λ y. not (test y)) xs) (filter (λ y. not (test y)) xs))) e h)
+    (λ e. All-tail P x (filter (λ y. not (test y)) xs) (subst (λ b. All P (cond (not b) (x ∷ filter (λ y. not (test y)) xs) (filter (λ y. not (test y)) xs))) e h))))
 
 -- where two interpretations agree on the free names of a fact, it is true at both or at neither
 pub FactAt-agree : (v w : Interpretation) (f : FactTree) → All (AgreesAt v w) (fact_names f) → FactAt v f → FactAt w f
 FactAt-agree v w (plain f) h true_at_v = subst IsTrue (form_at-agree v w f h) true_at_v
 FactAt-agree v w (all x lo hi f) h true_at_v = λ n from to.
     let rest : All (AgreesAt v w) (term_names hi ++ filter (λ o. not (is_number x o)) (form_names f)) =
-        All-right (AgreesAt v w) (term_names lo) (term_names hi ++ filter (λ o. not (is_number x o)) (form_names f)) h in
+    All-right (AgreesAt v w) (term_names lo) (term_names hi ++ filter (λ o. not (is_number x o)) (form_names f)) h in
     let in_body : All (AgreesAt (with_value v x n) (with_value w x n)) (form_names f) =
-        All-but (is_number x) (AgreesAt v w) (AgreesAt (with_value v x n) (with_value w x n)) (AgreesAt-both v w x n) (form_names f)
-            (All-right (AgreesAt v w) (term_names hi) (filter (λ o. not (is_number x o)) (form_names f)) rest) in
+    All-but (is_number x) (AgreesAt v w) (AgreesAt (with_value v x n) (with_value w x n)) (AgreesAt-both v w x n) (form_names f)
+    (All-right (AgreesAt v w) (term_names hi) (filter (λ o. not (is_number x o)) (form_names f)) rest) in
     subst IsTrue (form_at-agree (with_value v x n) (with_value w x n) f in_body)
-        (true_at_v n
-            (subst (λ z. z ≤ℤ n) (sym (term_at-agree v w lo (All-left (AgreesAt v w) (term_names lo) (term_names hi ++ filter (λ o. not (is_number x o)) (form_names f)) h))) from)
-            (subst (λ z. n <ℤ z) (sym (term_at-agree v w hi (All-left (AgreesAt v w) (term_names hi) (filter (λ o. not (is_number x o)) (form_names f)) rest))) to))
+    (true_at_v n
+    (subst (λ z. z ≤ℤ n) (sym (term_at-agree v w lo (All-left (AgreesAt v w) (term_names lo) (term_names hi ++ filter (λ o. not (is_number x o)) (form_names f)) h))) from)
+    (subst (λ z. n <ℤ z) (sym (term_at-agree v w hi (All-left (AgreesAt v w) (term_names hi) (filter (λ o. not (is_number x o)) (form_names f)) rest))) to))
 
 -- agreement has no direction
 pub AgreesAt-back : (v w : Interpretation) (o : Occurrence) → AgreesAt v w o → AgreesAt w v o

@@ -54,8 +54,8 @@ under_bound c x lo hi f avoids v n = λ i. record {
   value = λ y. choice (same_sym x y) (with_value v x n) y (c.number y) n (term_at v (c.number y))
       (ap (λ b. if b then n else v.value y))
       (λ e. term_at-agree (with_value v x n) v (c.number y)
-          (All-none (is_number x) (AgreesAt (with_value v x n) v) (AgreesAt-with_value v x n) (term_names (c.number y))
-              (avoids.numbers y (captures-one x y lo hi f e)))) i;
+      (All-none (is_number x) (AgreesAt (with_value v x n) v) (AgreesAt-with_value v x n) (term_names (c.number y))
+      (avoids.numbers y (captures-one x y lo hi f e)))) i;
   element = λ y k. array_at-agree (with_value v x n) v (c.array y) k
       (All-none (is_number x) (AgreesAt (with_value v x n) v) (AgreesAt-with_value v x n) (array_names (c.array y)) (avoids.arrays y)) i;
 }

@@ -80,6 +80,7 @@ term_tree-Read a i = ap term_tree (sym (term.rolls-Read a i)) ∙ term_level (Te
 
 pub term_tree-Truth : (f : Form) → term_tree (term.Truth f) ≡ truth (form_tree f)
 term_tree-Truth f = ap term_tree (sym (term.rolls-Truth f)) ∙ term_level (Term-F.Truth f)
+
 -- one level of what is built
 pub ruleset tree_levels = (array_tree-Base, array_tree-Store, form_tree-True, form_tree-False, form_tree-Le, form_tree-Eq, form_tree-Not, form_tree-And, form_tree-Or, term_tree-Num, term_tree-Of, term_tree-Add, term_tree-Sub, term_tree-Mul, term_tree-Div, term_tree-Rem, term_tree-Read, term_tree-Truth)
 

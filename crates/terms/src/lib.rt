@@ -2,6 +2,7 @@
 //! where a name is replaced.
 #![tactic(auto)]
 
+mod copy;
 pub mod fact;
 pub mod form;
 pub mod sym;
