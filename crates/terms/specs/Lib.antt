@@ -3,3 +3,4 @@ pub mod Trees
 pub mod Names
 pub mod Truth
 pub mod Replacing
+pub mod Replacement

@@ -5,6 +5,7 @@
 mod copy;
 pub mod fact;
 pub mod form;
+mod replace;
 pub mod sym;
 
 pub use fact::Fact;
