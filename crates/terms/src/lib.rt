@@ -5,9 +5,11 @@
 mod copy;
 pub mod fact;
 pub mod form;
+mod names;
 mod replace;
 pub mod sym;
 
 pub use fact::Fact;
 pub use form::{ArrayTerm, Form, Term};
+pub use replace::{subst, subst_fact, subst_fact_row, subst_row};
 pub use sym::Sym;

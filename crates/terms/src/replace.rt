@@ -2,14 +2,15 @@ ghost use Rattle.std.specs.Prelude.{◌≡◌, ◌↔◌, false, IfOk, IsTrue};
 ghost use Rattle.terms.specs.Names.{term_names, array_names, captures};
 ghost use Rattle.terms.specs.Trees.{term_tree, array_tree, form_tree, fact_tree};
 ghost use Rattle.terms.specs.Truth.{Interpretation, with_value, with_array, term_at, array_at, form_at, FactAt};
-ghost use Rattle.terms.specs.Replacing.{number_by, array_by, replaced_term, replaced_array, replaced_form, replaced_fact};
+ghost use Rattle.terms.specs.Replacing.{number_by, array_by, replaced_term, replaced_array, replaced_form, below, replaced_fact};
 ghost use Rattle.terms.specs.Replacement.{change_of};
 
-use crate::{ArrayTerm, Form, Sym, Term};
+use crate::{ArrayTerm, Fact, Form, Sym, Term};
 use sqlite_items::Boxed;
 use std::alloc::{AllocError, Global};
 
 /// A name and what stands in for it.
+#[derive(Clone, Copy)]
 pub(crate) enum Replacement<'a> {
     Number(&'a Sym, &'a Term),
     Array(&'a Sym, &'a ArrayTerm),
@@ -158,4 +159,84 @@ fn array_for(alloc: Global, name: &Sym, by: &Replacement) -> Result<ArrayTerm, A
         }
     }
     Ok(ArrayTerm::Base(name.copy(alloc)?))
+}
+
+// The body below the bound name `var`, which stays where it is the replaced one.
+fn replaced_below(
+    alloc: Global,
+    var: &Sym,
+    body: &Form,
+    by: &Replacement,
+) -> Result<Form, AllocError>
+    ensures { IfOk result (λ made. form_tree made ≡ replaced_form (below var.now (change_of by.now)) (form_tree body.now)) }
+{
+    match by {
+        Replacement::Number(replaced, _) => {
+            if *replaced == var {
+                body.copy(alloc)
+            } else {
+                replaced_in_form(alloc, body, by)
+            }
+        }
+        Replacement::Array(_, _) => replaced_in_form(alloc, body, by),
+    }
+}
+
+fn replaced_in_fact(alloc: Global, fact: &Fact, by: &Replacement) -> Result<Fact, AllocError>
+    ensures { IfOk result (λ made. fact_tree made ≡ replaced_fact (change_of by.now) (fact_tree fact.now)) }
+{
+    match fact {
+        Fact::Plain(form) => Ok(Fact::Plain(replaced_in_form(alloc, form, by)?)),
+        Fact::All { var, lo, hi, body } => Ok(Fact::All {
+            var: var.copy(alloc)?,
+            lo: replaced_in_term(alloc, lo, by)?,
+            hi: replaced_in_term(alloc, hi, by)?,
+            body: replaced_below(alloc, var, body, by)?,
+        }),
+    }
+}
+
+/// The form with `by` wherever `name` stands as a number. It is true exactly where `form` is true of
+/// what `by` is worth for `name`.
+pub fn subst(alloc: Global, form: &Form, name: &Sym, by: &Term) -> Result<Form, AllocError>
+    ensures replaced { IfOk result (λ made. form_tree made ≡ replaced_form (number_by name.now (term_tree by.now)) (form_tree form.now)) }
+    ensures truth { IfOk result (λ made. (v : Interpretation) → form_at v (form_tree made) ≡ form_at (with_value v name.now (term_at v (term_tree by.now))) (form_tree form.now)) }
+{
+    replaced_in_form(alloc, form, &Replacement::Number(name, by))
+}
+
+/// The form with `by` wherever `name` stands as an array. It is true exactly where `form` is true of
+/// what `by` holds for `name`.
+pub fn subst_row(alloc: Global, form: &Form, name: &Sym, by: &ArrayTerm) -> Result<Form, AllocError>
+    ensures replaced { IfOk result (λ made. form_tree made ≡ replaced_form (array_by name.now (array_tree by.now)) (form_tree form.now)) }
+    ensures truth { IfOk result (λ made. (v : Interpretation) → form_at v (form_tree made) ≡ form_at (with_array v name.now (array_at v (array_tree by.now))) (form_tree form.now)) }
+{
+    replaced_in_form(alloc, form, &Replacement::Array(name, by))
+}
+
+/// The fact with `by` wherever `name` stands free as a number. The bound name stays, and `by` may
+/// not have it, for which `Fact::captures` is the test. What is made is true exactly where `fact` is
+/// true of what `by` is worth for `name`.
+pub fn subst_fact(alloc: Global, fact: &Fact, name: &Sym, by: &Term) -> Result<Fact, AllocError>
+    requires { captures (fact_tree fact.now) (term_names (term_tree by.now)) ≡ false }
+    ensures replaced { IfOk result (λ made. fact_tree made ≡ replaced_fact (number_by name.now (term_tree by.now)) (fact_tree fact.now)) }
+    ensures truth { IfOk result (λ made. (v : Interpretation) → FactAt v (fact_tree made) ↔ FactAt (with_value v name.now (term_at v (term_tree by.now))) (fact_tree fact.now)) }
+{
+    replaced_in_fact(alloc, fact, &Replacement::Number(name, by))
+}
+
+/// The fact with `by` wherever `name` stands as an array. `by` may not have the bound name, for which
+/// `Fact::captures_row` is the test. What is made is true exactly where `fact` is true of what `by`
+/// holds for `name`.
+pub fn subst_fact_row(
+    alloc: Global,
+    fact: &Fact,
+    name: &Sym,
+    by: &ArrayTerm,
+) -> Result<Fact, AllocError>
+    requires { captures (fact_tree fact.now) (array_names (array_tree by.now)) ≡ false }
+    ensures replaced { IfOk result (λ made. fact_tree made ≡ replaced_fact (array_by name.now (array_tree by.now)) (fact_tree fact.now)) }
+    ensures truth { IfOk result (λ made. (v : Interpretation) → FactAt v (fact_tree made) ↔ FactAt (with_array v name.now (array_at v (array_tree by.now))) (fact_tree fact.now)) }
+{
+    replaced_in_fact(alloc, fact, &Replacement::Array(name, by))
 }
