@@ -4,3 +4,4 @@ pub mod Names
 pub mod Truth
 pub mod Replacing
 pub mod Replacement
+pub mod Valuations

@@ -8,8 +8,10 @@ pub mod form;
 mod names;
 mod replace;
 pub mod sym;
+pub mod valuation;
 
 pub use fact::Fact;
 pub use form::{ArrayTerm, Form, Term};
 pub use replace::{subst, subst_fact, subst_fact_row, subst_row};
 pub use sym::Sym;
+pub use valuation::Valuation;

@@ -11,5 +11,5 @@ returns-clause-truth c = IfOk-weaker c.replaced_in_fact.result
     (λ made. fact_tree made ≡ replaced_fact (array_by c.args.name.now (array_tree c.args.by.now)) (fact_tree c.args.fact.now))
     (λ made. (v : Interpretation) → FactAt v (fact_tree made) ↔ FactAt (with_array v c.args.name.now (array_at v (array_tree c.args.by.now))) (fact_tree c.args.fact.now))
     (λ made e v. subst (λ (f : FactTree). FactAt v f ↔ FactAt (with_array v c.args.name.now (array_at v (array_tree c.args.by.now))) (fact_tree c.args.fact.now)) (sym e)
-        (FactAt-array_by c.args.name.now (array_tree c.args.by.now) v (fact_tree c.args.fact.now) c.requires))
+    (FactAt-array_by c.args.name.now (array_tree c.args.by.now) v (fact_tree c.args.fact.now) c.requires))
     c.replaced_in_fact.ensures
