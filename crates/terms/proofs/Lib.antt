@@ -5,3 +5,5 @@ pub mod NameLists
 pub mod NameLaws
 pub mod ReplacingLaws
 pub mod BelowLaws
+pub mod KeptLaws
+pub mod ValueLaws

@@ -5,3 +5,4 @@ pub mod Truth
 pub mod Replacing
 pub mod Replacement
 pub mod Valuations
+pub mod Operations

@@ -34,6 +34,10 @@ is_listed v (as_array x) = is_some (listed_row v x)
 unfoldable pub is_small : ℤ → Bool
 is_small z = nat_le (unsigned_abs z) (2 ^ 100)
 
+-- the number, where it is small
+unfoldable pub kept : ℤ → Option ℤ
+kept z = if is_small z then Some z else None
+
 -- each of these names is listed, and what each of these terms is worth is small
 abbrev pub can_evaluate : Valuation → List Occurrence → List TermTree → Bool
 can_evaluate v names terms = list_all (is_listed v) names && list_all (λ t. is_small (term_at (interpretation_of v) t)) terms

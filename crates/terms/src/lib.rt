@@ -3,6 +3,7 @@
 #![tactic(auto)]
 
 mod copy;
+mod evaluate;
 pub mod fact;
 pub mod form;
 mod names;

@@ -39,7 +39,7 @@ impl Valuation {
 }
 
 /// What an array of these pairs holds at the index. It takes no memory.
-pub fn element_of(row: &[(i128, i128)], index: i128) -> i128
+pub(crate) fn element_of(row: &[(i128, i128)], index: i128) -> i128
     ensures { result ≡ element_in row.now index }
 {
     row.iter()
