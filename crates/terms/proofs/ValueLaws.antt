@@ -8,11 +8,15 @@ use Rattle.terms.specs.declared.sym.Sym.{Sym}
 use Rattle.terms.specs.declared.valuation.Valuation.{Valuation}
 use Rattle.terms.specs.declared.evaluate.Operation.{Operation}
 use Rattle.terms.specs.declared.evaluate.Operation.TheVariants as operation
-use Rattle.terms.specs.Trees.{TermTree, number, name, plus, minus, times, divided, remainder, read, truth, ArrayTree, array, stored, FormTree, always, never, at_most, equal, denied, both, either}
+use Rattle.terms.specs.Trees.{TermTree, number, name, plus, minus, times, divided, remainder, read, truth, ArrayTree, array, stored, FormTree, always, never, at_most, equal, denied, both, either, term_tree, array_tree}
 use Rattle.terms.specs.Names.{Occurrence, term_names, array_names, form_names, terms_in_term, terms_in_array, terms_in_form}
 use Rattle.terms.specs.Truth.{number_of, term_at, array_at, form_at}
 use Rattle.terms.specs.Valuations.{listed_number, listed_row, element_in, interpretation_of, is_listed, is_small, kept, can_evaluate, term_value, element_value, form_value}
-use Rattle.terms.specs.Operations.{worth, joined}
+use Rattle.terms.specs.Operations.{worth, joined, written}
+use Rattle.terms.proofs.TreeLemmas.{tree_levels, array_tree-Store}
+use Rattle.terms.specs.declared.form.Term.{Term}
+use Rattle.terms.specs.declared.form.ArrayTerm.{ArrayTerm}
+use Rattle.terms.specs.declared.form.ArrayTerm.TheVariants as row
 
 -- a value that is there or not
 abbrev pub answer : {A : Type 0} → Bool → A → Option A
@@ -44,7 +48,7 @@ module _ (v : Valuation) where
   both_parts names names' terms terms' =
       ap₂ (λ a b. a && b) (list_all-append (is_listed v) names names') (list_all-append (λ t. is_small (term_at (interpretation_of v) t)) terms terms')
       ∙ regroup_four (list_all (is_listed v) names) (list_all (is_listed v) names')
-          (list_all (λ t. is_small (term_at (interpretation_of v) t)) terms) (list_all (λ t. is_small (term_at (interpretation_of v) t)) terms')
+      (list_all (λ t. is_small (term_at (interpretation_of v) t)) terms) (list_all (λ t. is_small (term_at (interpretation_of v) t)) terms')
 
   -- a term before its parts
   term_and_parts : (names : List Occurrence) (t : TermTree) (terms : List TermTree)
@@ -92,30 +96,30 @@ module _ (v : Valuation) where
   unfolding term_value
   operation_value f whole t u e =
       ap₂ answer
-          (term_and_parts v (term_names t ++ term_names u) whole (terms_in_term t ++ terms_in_term u)
-          ∙ ap₂ (λ a z. a && is_small z) (both_parts v (term_names t) (term_names u) (terms_in_term t) (terms_in_term u)) e) e
+      (term_and_parts v (term_names t ++ term_names u) whole (terms_in_term t ++ terms_in_term u)
+      ∙ ap₂ (λ a z. a && is_small z) (both_parts v (term_names t) (term_names u) (terms_in_term t) (terms_in_term u)) e) e
       ∙ kept_answer (can_evaluate v (term_names t) (terms_in_term t) && can_evaluate v (term_names u) (terms_in_term u)) (f (term_at (interpretation_of v) t) (term_at (interpretation_of v) u))
       ∙ ap (option_and_then kept) (joined_answer f (can_evaluate v (term_names t) (terms_in_term t)) (can_evaluate v (term_names u) (terms_in_term u)) (term_at (interpretation_of v) t) (term_at (interpretation_of v) u))
       ∙ joined_kept f (term_value v t) (term_value v u)
 
   pub term_value-plus : (t u : TermTree) → term_value v (plus t u) ≡ joined (λ p q. kept (worth operation.Sum p q)) (term_value v t) (term_value v u)
-  unfolding term_value
+  unfolding term_value worth
   term_value-plus t u = operation_value (worth operation.Sum) (plus t u) t u refl
 
   pub term_value-minus : (t u : TermTree) → term_value v (minus t u) ≡ joined (λ p q. kept (worth operation.Difference p q)) (term_value v t) (term_value v u)
-  unfolding term_value
+  unfolding term_value worth
   term_value-minus t u = operation_value (worth operation.Difference) (minus t u) t u refl
 
   pub term_value-times : (t u : TermTree) → term_value v (times t u) ≡ joined (λ p q. kept (worth operation.Product p q)) (term_value v t) (term_value v u)
-  unfolding term_value
+  unfolding term_value worth
   term_value-times t u = operation_value (worth operation.Product) (times t u) t u refl
 
   pub term_value-divided : (t u : TermTree) → term_value v (divided t u) ≡ joined (λ p q. kept (worth operation.Quotient p q)) (term_value v t) (term_value v u)
-  unfolding term_value
+  unfolding term_value worth
   term_value-divided t u = operation_value (worth operation.Quotient) (divided t u) t u refl
 
   pub term_value-remainder : (t u : TermTree) → term_value v (remainder t u) ≡ joined (λ p q. kept (worth operation.Remainder p q)) (term_value v t) (term_value v u)
-  unfolding term_value
+  unfolding term_value worth
   term_value-remainder t u = operation_value (worth operation.Remainder) (remainder t u) t u refl
 
   read_answer : (a b : Bool) (row : ℤ → ℤ) (k : ℤ) → answer ((a && b) && is_small (row k)) (row k) ≡ option_and_then (λ i. option_and_then kept (answer a (row i))) (answer b k)
@@ -129,8 +133,8 @@ module _ (v : Valuation) where
   unfolding term_value element_value
   term_value-read a i =
       ap (λ b. answer b (array_at (interpretation_of v) a (term_at (interpretation_of v) i)))
-          (term_and_parts v (array_names a ++ term_names i) (read a i) (terms_in_array a ++ terms_in_term i)
-          ∙ ap (λ b. b && is_small (array_at (interpretation_of v) a (term_at (interpretation_of v) i))) (both_parts v (array_names a) (term_names i) (terms_in_array a) (terms_in_term i)))
+      (term_and_parts v (array_names a ++ term_names i) (read a i) (terms_in_array a ++ terms_in_term i)
+      ∙ ap (λ b. b && is_small (array_at (interpretation_of v) a (term_at (interpretation_of v) i))) (both_parts v (array_names a) (term_names i) (terms_in_array a) (terms_in_term i)))
       ∙ read_answer (can_evaluate v (array_names a) (terms_in_array a)) (can_evaluate v (term_names i) (terms_in_term i)) (array_at (interpretation_of v) a) (term_at (interpretation_of v) i)
 
   one_or_zero : (b : Bool) → is_small (number_of b) ≡ true
@@ -146,7 +150,7 @@ module _ (v : Valuation) where
   unfolding term_value form_value
   term_value-truth f =
       ap (λ b. answer b (number_of (form_at (interpretation_of v) f)))
-          (term_and_parts v (form_names f) (truth f) (terms_in_form f) ∙ ap (λ b. can_evaluate v (form_names f) (terms_in_form f) && b) (one_or_zero (form_at (interpretation_of v) f)))
+      (term_and_parts v (form_names f) (truth f) (terms_in_form f) ∙ ap (λ b. can_evaluate v (form_names f) (terms_in_form f) && b) (one_or_zero (form_at (interpretation_of v) f)))
       ∙ truth_answer (can_evaluate v (form_names f) (terms_in_form f)) (form_at (interpretation_of v) f)
 
   -- ---- arrays
@@ -159,10 +163,6 @@ module _ (v : Valuation) where
   unfolding element_value
   element_value-array x k = base_value (listed_row v x) k
 
-  -- what is stored, where the index is the one that is read
-  abbrev pub written : ℤ → ℤ → ℤ → ℤ → ℤ
-  written k below index value = if int_eq index k then value else below
-
   stored_answer : (a b c : Bool) (k below index value : ℤ) → answer (a && (b && c)) (written k below index value)
       ≡ option_and_then (λ z. joined (λ i w. Some (written k z i w)) (answer b index) (answer c value)) (answer a below)
   stored_answer true true true k below index value = refl
@@ -172,13 +172,13 @@ module _ (v : Valuation) where
 
   pub element_value-stored : (a : ArrayTree) (i t : TermTree) (k : ℤ)
       → element_value v (stored a i t) k ≡ option_and_then (λ below. joined (λ index value. Some (written k below index value)) (term_value v i) (term_value v t)) (element_value v a k)
-  unfolding element_value term_value
+  unfolding element_value term_value written
   element_value-stored a i t k =
       ap (λ b. answer b (array_at (interpretation_of v) (stored a i t) k))
-          (both_parts v (array_names a) (term_names i ++ term_names t) (terms_in_array a) (terms_in_term i ++ terms_in_term t)
-          ∙ ap (λ b. can_evaluate v (array_names a) (terms_in_array a) && b) (both_parts v (term_names i) (term_names t) (terms_in_term i) (terms_in_term t)))
+      (both_parts v (array_names a) (term_names i ++ term_names t) (terms_in_array a) (terms_in_term i ++ terms_in_term t)
+      ∙ ap (λ b. can_evaluate v (array_names a) (terms_in_array a) && b) (both_parts v (term_names i) (term_names t) (terms_in_term i) (terms_in_term t)))
       ∙ stored_answer (can_evaluate v (array_names a) (terms_in_array a)) (can_evaluate v (term_names i) (terms_in_term i)) (can_evaluate v (term_names t) (terms_in_term t))
-          k (array_at (interpretation_of v) a k) (term_at (interpretation_of v) i) (term_at (interpretation_of v) t)
+      k (array_at (interpretation_of v) a k) (term_at (interpretation_of v) i) (term_at (interpretation_of v) t)
 
   -- ---- forms
 
@@ -222,4 +222,14 @@ module _ (v : Valuation) where
       ap (λ b. answer b (form_at (interpretation_of v) (either f g))) (both_parts v (form_names f) (form_names g) (terms_in_form f) (terms_in_form g))
       ∙ joined_answer (λ p q. p || q) (can_evaluate v (form_names f) (terms_in_form f)) (can_evaluate v (form_names g) (terms_in_form g)) (form_at (interpretation_of v) f) (form_at (interpretation_of v) g)
 
+pub stored_value : (v : Valuation) (whole a : ArrayTerm) (i t : Term) (k before index value : ℤ) → whole ≡ row.Store a i t
+    → Some before ≡ element_value v (array_tree a) k → Some index ≡ term_value v (term_tree i) → Some value ≡ term_value v (term_tree t)
+    → Some (written k before index value) ≡ element_value v (array_tree whole) k
+stored_value v whole a i t k before index value is e f g =
+    (λ j. option_and_then (λ z. joined (λ p q. Some (written k z p q)) (f j) (g j)) (e j))
+    ∙ sym (element_value-stored v (array_tree a) (term_tree i) (term_tree t) k)
+    ∙ ap (λ r. element_value v r k) (sym (ap array_tree is ∙ array_tree-Store a i t))
+
 pub ruleset values = (term_value-number, term_value-name, term_value-plus, term_value-minus, term_value-times, term_value-divided, term_value-remainder, term_value-read, term_value-truth, element_value-array, element_value-stored, form_value-always, form_value-never, form_value-at_most, form_value-equal, form_value-denied, form_value-both, form_value-either)
+
+pub ruleset at_trees = (tree_levels, values)

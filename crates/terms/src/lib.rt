@@ -11,6 +11,7 @@ mod replace;
 pub mod sym;
 pub mod valuation;
 
+pub use evaluate::holds_at;
 pub use fact::Fact;
 pub use form::{ArrayTerm, Form, Term};
 pub use replace::{subst, subst_fact, subst_fact_row, subst_row};

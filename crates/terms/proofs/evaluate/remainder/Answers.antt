@@ -7,4 +7,4 @@ pub returns-else-right-eq0 : goal.returns-else-right-eq0
 returns-else-right-eq0 c =
     c.small-else-right-eq0.ensures
     ∙ remainder_kept c.args.left c.args.right c.wrapping_rem.result c.ranges.left c.ranges.right (record { sfits = c.wrapping_rem.type_inv }) c.if-right-eq0.false
-        c.wrapping_rem.ensures
+    c.wrapping_rem.ensures
