@@ -1,5 +1,5 @@
 -- The names and the terms that stand in a formula, from left to right.
-use Rattle.std.specs.Prelude.{Bool, false, not, List, [], ◌∷◌, ◌++◌, filter, map}
+use Rattle.std.specs.Prelude.{Bool, false, not, if◌then◌else◌, List, [], ◌∷◌, ◌++◌, filter, map}
 use Rattle.std.specs.List.{list_any}
 use Rattle.terms.specs.declared.sym.Sym.{Sym}
 use Rattle.terms.specs.Symbols.{same_sym}
@@ -53,6 +53,15 @@ fact_names (all x lo hi f) = term_names lo ++ (term_names hi ++ filter (λ o. no
 abbrev pub captures : FactTree → List Occurrence → Bool
 captures (plain f) names = false
 captures (all x lo hi f) names = list_any (is_number x) names
+
+-- a list with the name at its end, if it doesn't have it yet
+abbrev pub with_name : List Sym → Sym → List Sym
+with_name names x = if list_any (λ y. same_sym y x) names then names else names ++ (x ∷ [])
+
+-- a list with these names, one after the other
+unfoldable pub with_names : List Sym → List Occurrence → List Sym
+with_names names [] = names
+with_names names (o ∷ os) = with_names (with_name names (symbol o)) os
 
 -- each name of a list once, at its first place
 abbrev pub first_occurrences : List Sym → List Sym

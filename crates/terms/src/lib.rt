@@ -14,6 +14,7 @@ pub mod valuation;
 pub use evaluate::holds_at;
 pub use fact::Fact;
 pub use form::{ArrayTerm, Form, Term};
+pub use names::free;
 pub use replace::{subst, subst_fact, subst_fact_row, subst_row};
 pub use sym::Sym;
 pub use valuation::Valuation;
