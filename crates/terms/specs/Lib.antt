@@ -6,3 +6,4 @@ pub mod Replacing
 pub mod Replacement
 pub mod Valuations
 pub mod Operations
+pub mod Validity

@@ -6,8 +6,10 @@ mod copy;
 mod evaluate;
 pub mod fact;
 pub mod form;
+pub mod laws;
 mod names;
 mod replace;
+pub mod sequent;
 pub mod sym;
 pub mod valuation;
 
@@ -16,5 +18,6 @@ pub use fact::Fact;
 pub use form::{ArrayTerm, Form, Term};
 pub use names::free;
 pub use replace::{subst, subst_fact, subst_fact_row, subst_row};
+pub use sequent::{Label, Sequent, Sort, What};
 pub use sym::Sym;
 pub use valuation::Valuation;
