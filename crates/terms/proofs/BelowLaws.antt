@@ -10,7 +10,7 @@ use Rattle.terms.specs.Replacement.{change_of}
 use Rattle.terms.specs.declared.form.Term.{Term}
 use Rattle.terms.specs.declared.replace.Replacement.{Replacement}
 use Rattle.terms.specs.declared.replace.Replacement.TheVariants as replacement
-use Rattle.terms.proofs.SymbolLaws.{same_sym-equal, same_sym-refl}
+use Rattle.terms.proofs.SymbolLaws.{same_sym-equal}
 
 -- nothing is replaced
 abbrev pub unchanged : Change

@@ -1,5 +1,5 @@
 -- What doesn't fit 128 bits isn't small, and remainders by quotients.
-use Rattle.std.proofs.Common.{◌≡◌, ℕ, ℤ, pos, ◌+ℤ◌, ◌-ℤ◌, ◌*ℤ◌, ◌≤◌, ◌<◌, ◌^◌, Bool, true, false, if◌then◌else◌, Some, None, refl, sym, ap, ap₂, ◌∙◌, subst, arith, lit<, FitsSigned, to_z, of_z}
+use Rattle.std.proofs.Common.{◌≡◌, ℕ, ℤ, pos, ◌+ℤ◌, ◌-ℤ◌, ◌*ℤ◌, ◌<◌, ◌^◌, true, false, if◌then◌else◌, Some, None, sym, ap, ap₂, ◌∙◌, subst, arith, lit<, FitsSigned, to_z, of_z}
 use Rattle.std.specs.Prelude.{nat_le, unsigned_abs, int_div, int_rem}
 use Rattle.std.specs.Int.{w128, CanDivide}
 use Rattle.std.specs.Ordering.{int_eq}

@@ -6,13 +6,12 @@ use Rattle.std.specs.Ordering.{int_eq}
 use Rattle.std.proofs.lemmas.List.Folds.{list_all-append}
 use Rattle.terms.specs.declared.sym.Sym.{Sym}
 use Rattle.terms.specs.declared.valuation.Valuation.{Valuation}
-use Rattle.terms.specs.declared.evaluate.Operation.{Operation}
 use Rattle.terms.specs.declared.evaluate.Operation.TheVariants as operation
 use Rattle.terms.specs.Trees.{TermTree, number, name, plus, minus, times, divided, remainder, read, truth, ArrayTree, array, stored, FormTree, always, never, at_most, equal, denied, both, either, term_tree, array_tree}
 use Rattle.terms.specs.Names.{Occurrence, term_names, array_names, form_names, terms_in_term, terms_in_array, terms_in_form}
 use Rattle.terms.specs.Truth.{number_of, term_at, array_at, form_at}
 use Rattle.terms.specs.Valuations.{listed_number, listed_row, element_in, interpretation_of, is_listed, is_small, kept, can_evaluate, term_value, element_value, form_value}
-use Rattle.terms.specs.Operations.{worth, joined, written}
+use Rattle.terms.specs.Operations.{worth, written}
 use Rattle.terms.proofs.TreeLemmas.{tree_levels, array_tree-Store}
 use Rattle.terms.specs.declared.form.Term.{Term}
 use Rattle.terms.specs.declared.form.ArrayTerm.{ArrayTerm}
@@ -21,6 +20,10 @@ use Rattle.terms.specs.declared.form.ArrayTerm.TheVariants as row
 -- a value that is there or not
 abbrev pub answer : {A : Type 0} → Bool → A → Option A
 answer b x = if b then Some x else None
+
+-- of two values that both have to be there
+abbrev pub joined : {A B : Type 0} → (A → A → Option B) → Option A → Option A → Option B
+joined f x y = option_and_then (λ a. option_and_then (λ b. f a b) y) x
 
 -- ---- tests
 

@@ -1,7 +1,6 @@
 -- What the operations of terms are worth.
-use Rattle.std.specs.Prelude.{ℤ, ◌+ℤ◌, ◌-ℤ◌, ◌*ℤ◌, if◌then◌else◌, Option}
+use Rattle.std.specs.Prelude.{ℤ, ◌+ℤ◌, ◌-ℤ◌, ◌*ℤ◌, if◌then◌else◌}
 use Rattle.std.specs.Ordering.{int_eq}
-use Rattle.std.specs.Option.{option_and_then}
 use Rattle.terms.specs.declared.evaluate.Operation.{Operation}
 use Rattle.terms.specs.declared.evaluate.Operation.TheVariants as operation
 use Rattle.terms.specs.Truth.{quotient_of, remainder_of}
@@ -12,10 +11,6 @@ worth operation.Difference a b = a -ℤ b
 worth operation.Product a b = a *ℤ b
 worth operation.Quotient a b = quotient_of a b
 worth operation.Remainder a b = remainder_of a b
-
--- of two values that both have to be there
-abbrev pub joined : {A B : Type 0} → (A → A → Option B) → Option A → Option A → Option B
-joined f x y = option_and_then (λ a. option_and_then (λ b. f a b) y) x
 
 -- what an array holds at index k behind the storing of a value, where it held `before`
 unfoldable pub written : ℤ → ℤ → ℤ → ℤ → ℤ

@@ -1,6 +1,6 @@
 -- Valuations that are written as lists: of several pairs of one name or one index the first counts,
 -- and what isn't listed is 0.
-use Rattle.std.specs.Prelude.{◌^◌, ℤ, pos, Bool, ◌&&◌, nat_le, int_le, unsigned_abs, if◌then◌else◌, List, [], find, Option, Some, None, is_some, unwrap_or}
+use Rattle.std.specs.Prelude.{◌^◌, ℤ, pos, Bool, ◌&&◌, nat_le, unsigned_abs, if◌then◌else◌, List, [], find, Option, Some, None, is_some, unwrap_or}
 use Rattle.std.specs.List.{list_all}
 use Rattle.std.specs.Option.{option_map}
 use Rattle.std.specs.Ordering.{int_eq}

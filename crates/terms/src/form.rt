@@ -1,6 +1,9 @@
 use crate::Sym;
 use sqlite_items::Boxed;
 
+/// A term, which is worth a whole number without bound. `Div` rounds toward zero and is 0 by 0,
+/// `Rem` is `a - (a / b) * b`, `Read` is an array's element, and `Truth` is 1 where the form is true
+/// and 0 elsewhere.
 #[cycle(tree)]
 #[derive(Debug, Drop)]
 pub enum Term {
@@ -15,6 +18,7 @@ pub enum Term {
     Truth(Boxed<Form>),
 }
 
+/// An array: a name, or another array with a value stored at an index.
 #[cycle(tree)]
 #[derive(Debug, Drop)]
 pub enum ArrayTerm {
@@ -22,6 +26,7 @@ pub enum ArrayTerm {
     Store(Boxed<ArrayTerm>, Boxed<Term>, Boxed<Term>),
 }
 
+/// A form, which is true or false. It binds no name.
 #[cycle(tree)]
 #[derive(Debug, Drop)]
 pub enum Form {

@@ -168,7 +168,8 @@ fn replaced_below(
     body: &Form,
     by: &Replacement,
 ) -> Result<Form, AllocError>
-    ensures { IfOk result (λ made. form_tree made ≡ replaced_form (below var.now (change_of by.now)) (form_tree body.now)) }
+    ensures { IfOk result (λ made.
+        form_tree made ≡ replaced_form (below var.now (change_of by.now)) (form_tree body.now)) }
 {
     match by {
         Replacement::Number(replaced, _) => {
@@ -199,8 +200,11 @@ fn replaced_in_fact(alloc: Global, fact: &Fact, by: &Replacement) -> Result<Fact
 /// The form with `by` wherever `name` stands as a number. It is true exactly where `form` is true of
 /// what `by` is worth for `name`.
 pub fn subst(alloc: Global, form: &Form, name: &Sym, by: &Term) -> Result<Form, AllocError>
-    ensures replaced { IfOk result (λ made. form_tree made ≡ replaced_form (number_by name.now (term_tree by.now)) (form_tree form.now)) }
-    ensures truth { IfOk result (λ made. (v : Interpretation) → form_at v (form_tree made) ≡ form_at (with_value v name.now (term_at v (term_tree by.now))) (form_tree form.now)) }
+    ensures replaced { IfOk result (λ made.
+        form_tree made ≡ replaced_form (number_by name.now (term_tree by.now)) (form_tree form.now)) }
+    ensures truth { IfOk result (λ made. (v : Interpretation) →
+        form_at v (form_tree made)
+        ≡ form_at (with_value v name.now (term_at v (term_tree by.now))) (form_tree form.now)) }
 {
     replaced_in_form(alloc, form, &Replacement::Number(name, by))
 }
@@ -208,8 +212,11 @@ pub fn subst(alloc: Global, form: &Form, name: &Sym, by: &Term) -> Result<Form, 
 /// The form with `by` wherever `name` stands as an array. It is true exactly where `form` is true of
 /// what `by` holds for `name`.
 pub fn subst_row(alloc: Global, form: &Form, name: &Sym, by: &ArrayTerm) -> Result<Form, AllocError>
-    ensures replaced { IfOk result (λ made. form_tree made ≡ replaced_form (array_by name.now (array_tree by.now)) (form_tree form.now)) }
-    ensures truth { IfOk result (λ made. (v : Interpretation) → form_at v (form_tree made) ≡ form_at (with_array v name.now (array_at v (array_tree by.now))) (form_tree form.now)) }
+    ensures replaced { IfOk result (λ made.
+        form_tree made ≡ replaced_form (array_by name.now (array_tree by.now)) (form_tree form.now)) }
+    ensures truth { IfOk result (λ made. (v : Interpretation) →
+        form_at v (form_tree made)
+        ≡ form_at (with_array v name.now (array_at v (array_tree by.now))) (form_tree form.now)) }
 {
     replaced_in_form(alloc, form, &Replacement::Array(name, by))
 }
@@ -219,8 +226,11 @@ pub fn subst_row(alloc: Global, form: &Form, name: &Sym, by: &ArrayTerm) -> Resu
 /// true of what `by` is worth for `name`.
 pub fn subst_fact(alloc: Global, fact: &Fact, name: &Sym, by: &Term) -> Result<Fact, AllocError>
     requires { captures (fact_tree fact.now) (term_names (term_tree by.now)) ≡ false }
-    ensures replaced { IfOk result (λ made. fact_tree made ≡ replaced_fact (number_by name.now (term_tree by.now)) (fact_tree fact.now)) }
-    ensures truth { IfOk result (λ made. (v : Interpretation) → FactAt v (fact_tree made) ↔ FactAt (with_value v name.now (term_at v (term_tree by.now))) (fact_tree fact.now)) }
+    ensures replaced { IfOk result (λ made.
+        fact_tree made ≡ replaced_fact (number_by name.now (term_tree by.now)) (fact_tree fact.now)) }
+    ensures truth { IfOk result (λ made. (v : Interpretation) →
+        FactAt v (fact_tree made)
+        ↔ FactAt (with_value v name.now (term_at v (term_tree by.now))) (fact_tree fact.now)) }
 {
     replaced_in_fact(alloc, fact, &Replacement::Number(name, by))
 }
@@ -235,8 +245,11 @@ pub fn subst_fact_row(
     by: &ArrayTerm,
 ) -> Result<Fact, AllocError>
     requires { captures (fact_tree fact.now) (array_names (array_tree by.now)) ≡ false }
-    ensures replaced { IfOk result (λ made. fact_tree made ≡ replaced_fact (array_by name.now (array_tree by.now)) (fact_tree fact.now)) }
-    ensures truth { IfOk result (λ made. (v : Interpretation) → FactAt v (fact_tree made) ↔ FactAt (with_array v name.now (array_at v (array_tree by.now))) (fact_tree fact.now)) }
+    ensures replaced { IfOk result (λ made.
+        fact_tree made ≡ replaced_fact (array_by name.now (array_tree by.now)) (fact_tree fact.now)) }
+    ensures truth { IfOk result (λ made. (v : Interpretation) →
+        FactAt v (fact_tree made)
+        ↔ FactAt (with_array v name.now (array_at v (array_tree by.now))) (fact_tree fact.now)) }
 {
     replaced_in_fact(alloc, fact, &Replacement::Array(name, by))
 }

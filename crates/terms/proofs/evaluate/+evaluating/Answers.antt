@@ -1,4 +1,4 @@
-use Rattle.std.proofs.Common.{arith, rules, to_z, of_z, FitsSigned, ℤ, ◌≡◌, Some, ◌∙◌, sym, ap}
+use Rattle.std.proofs.Common.{rules, FitsSigned, ◌≡◌, Some, ◌∙◌, ap}
 use Rattle.std.specs.Int.{w128}
 use Rattle.std.proofs.lemmas.Int.{to_z-of_z}
 use Rattle.terms.specs.Operations.{written}

@@ -1,5 +1,4 @@
-use Rattle.std.proofs.Common.{◌∙◌, FitsSigned}
-use Rattle.std.specs.Int.{w128}
+use Rattle.std.proofs.Common.{◌∙◌}
 use Rattle.terms.proofs.KeptLaws.{remainder_kept}
 use Rattle.terms.proofs.evaluate.remainder.Goals as goal
 
