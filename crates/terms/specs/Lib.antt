@@ -1,0 +1,9 @@
+pub mod Symbols
+pub mod Trees
+pub mod Names
+pub mod Truth
+pub mod Replacing
+pub mod Replacement
+pub mod Valuations
+pub mod Operations
+pub mod Validity
