@@ -1,3 +1,6 @@
 mod Ints
 mod Else
 mod Appends
+mod Chains
+mod Words
+mod ExpressionLaw

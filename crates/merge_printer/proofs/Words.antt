@@ -1,0 +1,194 @@
+-- The tokens of printed texts, each with the text that it has.
+use Rattle.std.specs.Prelude.{⊤, ◌≡◌, ◌≢◌, ℕ, pos, zero, suc, ◌+◌, ◌-◌, ◌*◌, ◌^◌, ◌<◌, ◌≤◌, Bool, true, false, ◌&&◌, ◌||◌, not, ◌==◌, List, [], ◌∷◌, ◌++◌, length, slice_index, Option, Some, None, codes}
+use Rattle.std.proofs.Common.{refl, sym, ap, subst, ◌∙◌, rules, arith}
+use Rattle.std.specs.Fmt.{decimal}
+use Rattle.std.specs.List.{list_all}
+use Rattle.std.proofs.lemmas.Fmt.{digits_decimal, digits_value-decimal, first_decimal, decimal_digit, decimal_nonempty}
+use Rattle.std.proofs.lemmas.Str.Parse.{IsNumeralModel, numerals_by_fold}
+use Rattle.std.proofs.lemmas.Bool.Decides.{nat_tests}
+use Rattle.c_lang.specs.Names.{Bytes, is_digit, is_letter, is_word, is_reserved}
+use Rattle.c_lexer.proofs.Cases.{and_both, and_false}
+use Rattle.c_lexer.proofs.Runs.{digit_in_number}
+use Rattle.c_lang.specs.Operators.{operator_text}
+use Rattle.c_lang.specs.declared.expr.Op.{Op}
+use Rattle.c_lang.specs.declared.expr.Op.TheVariants as op
+use Rattle.c_lang.specs.declared.unit.Unit.TheVariants.{Merge}
+use Rattle.c_lexer.specs.Bytes.{is_in_word, is_in_number, IsEnd, IsRun}
+use Rattle.c_lexer.specs.Words.{keyword_number, is_refused, is_allowed}
+use Rattle.c_lexer.specs.Punctuators.{punctuator_number, IsLongest}
+use Rattle.c_lexer.specs.Pieces.{IsPiece, IsNumber, begins_comment}
+use Rattle.c_lexer.specs.Pieces as lexed
+use Rattle.c_lexer.specs.Lexed.{goes, after_bytes}
+use Rattle.c_lexer.specs.declared.token.Token.{Token}
+use Rattle.c_lexer.specs.declared.token.Word.{Word}
+use Rattle.c_lexer.specs.declared.token.Word.TheVariants as w
+use Rattle.c_lexer.specs.declared.piece.Piece.TheVariants as piece
+use Rattle.c_lexer.specs.declared.lexer.Place.{Place}
+use Rattle.c_expressions.specs.Tokens.{At, token, mark, operator, operator_number, keyword}
+use Rattle.merge_printer.proofs.Chains.{Prints}
+
+-- a token begins at this place
+abbrev pub Here : Place → At → Type 0
+Here p at = at.pos ≡ p.pos
+
+-- the text is one token
+abbrev pub Single : Word → Place → Bytes → Bytes → Type 0
+Single what p z rest = Prints (λ (at : At). token at what ∷ []) (Here p) p z rest
+
+abbrev pub Marked : ℕ → Place → Bytes → Bytes → Type 0
+Marked k p z rest = Prints (λ (at : At). mark k at ∷ []) (Here p) p z rest
+
+abbrev pub Key : ℕ → Place → Bytes → Bytes → Type 0
+Key k p z rest = Prints (λ (at : At). keyword k at ∷ []) (Here p) p z rest
+
+single : {p : Place} {z rest : Bytes} (what : Word) → IsPiece Merge p.fresh rest z (piece.Token what) → Single what p z rest
+single {p} {z} {rest} what is = record {
+  tree = record { start = p.offset; end = p.offset + length z; pos = p.pos };
+  is = refl;
+  cuts = λ ts c. goes p z rest (piece.Token what) ts is c;
+}
+
+-- ---- punctuators
+
+longest : (byte : ℕ) (rest : Bytes) → ((next : ℕ) → punctuator_number (byte ∷ next ∷ []) ≡ None) → IsLongest (byte ∷ []) rest
+longest byte [] h = tt
+longest byte (next ∷ rest) h = h next
+
+-- a punctuator that no other one begins with
+alone : {p : Place} {rest : Bytes} (byte k : ℕ) → punctuator_number (byte ∷ []) ≡ Some k
+    → ((next : ℕ) → punctuator_number (byte ∷ next ∷ []) ≡ None) → (byte == 47) ≡ false → Marked k p (byte ∷ []) rest
+alone {p} {rest} byte k e h f = single (w.Punct k) (lexed.punctuator (byte ∷ []) k e (longest byte rest h) (rw f refl))
+
+operator_piece : (rest : Bytes) (fresh : Bool) (o : Op) → IsPiece Merge fresh (codes " " ++ rest) (operator_text o) (piece.Token (w.Punct (operator_number o)))
+unfolding punctuator_number
+operator_piece rest fresh op.Or = lexed.punctuator (codes "||") 22 refl refl refl
+operator_piece rest fresh op.And = lexed.punctuator (codes "&&") 21 refl refl refl
+operator_piece rest fresh op.Eq = lexed.punctuator (codes "==") 19 refl refl refl
+operator_piece rest fresh op.Ne = lexed.punctuator (codes "!=") 20 refl refl refl
+operator_piece rest fresh op.Lt = lexed.punctuator (codes "<") 15 refl refl refl
+operator_piece rest fresh op.Le = lexed.punctuator (codes "<=") 17 refl refl refl
+operator_piece rest fresh op.Gt = lexed.punctuator (codes ">") 16 refl refl refl
+operator_piece rest fresh op.Ge = lexed.punctuator (codes ">=") 18 refl refl refl
+operator_piece rest fresh op.Add = lexed.punctuator (codes "+") 9 refl refl refl
+operator_piece rest fresh op.Sub = lexed.punctuator (codes "-") 10 refl refl refl
+operator_piece rest fresh op.Mul = lexed.punctuator (codes "*") 11 refl refl refl
+operator_piece rest fresh op.Div = lexed.punctuator (codes "/") 12 refl refl refl
+operator_piece rest fresh op.Rem = lexed.punctuator (codes "%") 13 refl refl refl
+
+module _ {p : Place} {rest : Bytes} where
+  pub round_opens : Marked 0 p (codes "(") rest
+  unfolding punctuator_number
+  round_opens = alone 40 0 refl (λ next. refl) refl
+
+  pub round_closes : Marked 1 p (codes ")") rest
+  unfolding punctuator_number
+  round_closes = alone 41 1 refl (λ next. refl) refl
+
+  pub brace_opens : Marked 2 p (codes "{") rest
+  unfolding punctuator_number
+  brace_opens = alone 123 2 refl (λ next. refl) refl
+
+  pub brace_closes : Marked 3 p (codes "}") rest
+  unfolding punctuator_number
+  brace_closes = alone 125 3 refl (λ next. refl) refl
+
+  pub square_opens : Marked 4 p (codes "[") rest
+  unfolding punctuator_number
+  square_opens = alone 91 4 refl (λ next. refl) refl
+
+  pub square_closes : Marked 5 p (codes "]") rest
+  unfolding punctuator_number
+  square_closes = alone 93 5 refl (λ next. refl) refl
+
+  pub semicolon_mark : Marked 6 p (codes ";") rest
+  unfolding punctuator_number
+  semicolon_mark = alone 59 6 refl (λ next. refl) refl
+
+  pub comma_mark : Marked 7 p (codes ",") rest
+  unfolding punctuator_number
+  comma_mark = alone 44 7 refl (λ next. refl) refl
+
+  pub star_mark : Marked 11 p (codes "*") rest
+  unfolding punctuator_number
+  star_mark = alone 42 11 refl (λ next. refl) refl
+
+  pub equals_mark : Marked 8 p (codes "=") (codes " " ++ rest)
+  unfolding punctuator_number
+  equals_mark = single (w.Punct 8) (lexed.punctuator (codes "=") 8 refl refl refl)
+
+  pub operator_mark : (o : Op) → Prints (λ (at : At). operator o at ∷ []) (Here p) p (operator_text o) (codes " " ++ rest)
+  operator_mark o = single (w.Punct (operator_number o)) (operator_piece rest p.fresh o)
+
+-- the next byte is not this one
+abbrev pub IsNot : ℕ → Bytes → Type 0
+IsNot byte rest = IsEnd (λ next. next == byte) rest
+
+no_decrement : (rest : Bytes) → IsNot 45 rest → IsLongest (codes "-") rest
+unfolding punctuator_number
+no_decrement [] h = tt
+no_decrement (next ∷ rest) h = rw h refl
+
+no_unequal : (rest : Bytes) → IsNot 61 rest → IsLongest (codes "!") rest
+unfolding punctuator_number
+no_unequal [] h = tt
+no_unequal (next ∷ rest) h = rw h refl
+
+pub minus_mark : {p : Place} {rest : Bytes} → IsNot 45 rest → Marked 10 p (codes "-") rest
+unfolding punctuator_number
+minus_mark {p} {rest} h = single (w.Punct 10) (lexed.punctuator (codes "-") 10 refl (no_decrement rest h) refl)
+
+pub bang_mark : {p : Place} {rest : Bytes} → IsNot 61 rest → Marked 14 p (codes "!") rest
+unfolding punctuator_number
+bang_mark {p} {rest} h = single (w.Punct 14) (lexed.punctuator (codes "!") 14 refl (no_unequal rest h) refl)
+
+-- ---- words
+
+never_refused : (x : Bytes) → is_refused Merge x ≡ false
+unfolding is_allowed
+never_refused x = and_false (is_reserved x)
+
+all_in_word : (x : Bytes) → is_word x ≡ true → list_all is_in_word x ≡ true
+all_in_word [] h = refl
+all_in_word (byte ∷ x) h = let both = and_both (is_letter byte) (list_all is_in_word x) h in rw (both.0, both.1) refl
+
+-- a name that a text can have
+abbrev pub IsName : Bytes → Type 0
+IsName x = (is_word x ≡ true) × (keyword_number x ≡ None)
+
+pub name_word : {p : Place} {x rest : Bytes} → IsName x → IsEnd is_in_word rest → Single (w.Ident x) p x rest
+name_word {p} {x} {rest} h end =
+    single (w.Ident x) (lexed.identifier x (record { all = all_in_word x h.0; ends = end }) h.0 (never_refused x) h.1)
+
+pub key_word : {p : Place} {rest : Bytes} (k : ℕ) (x : Bytes) → is_word x ≡ true → keyword_number x ≡ Some k → IsEnd is_in_word rest → Key k p x rest
+key_word k x is e end = single (w.Key k) (lexed.keyword x k (record { all = all_in_word x is; ends = end }) is (never_refused x) e)
+
+-- ---- numbers
+
+own : IsNumeralModel (λ ds. list_all is_digit ds ≡ true) (lexed.value 0)
+own = numerals_by_fold _ (search rules) lexed.value (search rules)
+
+plain_of : (n : ℕ) → n < 2 ^ 64 → 1 < length (decimal n) → slice_index (decimal n) 0 ≡ 48 → ⊥
+plain_of zero small long zero_first = let e = ap length (decimal_digit 0 (omega arith)) in omega arith
+plain_of (suc n) small long zero_first = let f = first_decimal (suc n) (omega arith) small in omega arith
+
+pub is_number : (n : ℕ) → n ≤ 2147483647 → IsNumber (decimal n) n
+is_number n le =
+    let small : n < 2 ^ 64 = omega arith in
+    record {
+      some = decimal_nonempty n small;
+      digits = digits_decimal own n small;
+      plain = λ long zero_first. plain_of n small long zero_first;
+      value_is = digits_value-decimal own n small;
+      fits = le;
+    }
+
+digits_in_number : (ds : Bytes) → list_all is_digit ds ≡ true → list_all is_in_number ds ≡ true
+digits_in_number [] h = refl
+digits_in_number (byte ∷ ds) h =
+    let both = and_both (is_digit byte) (list_all is_digit ds) h in
+    rw (digit_in_number byte both.0, digits_in_number ds both.1) refl
+
+pub number_word : {p : Place} {rest : Bytes} (n : ℕ) → n ≤ 2147483647 → IsEnd is_in_number rest → Single (w.Number (pos n)) p (decimal n) rest
+number_word n le end =
+    let is = is_number n le in
+    single (w.Number (pos n)) (lexed.number (decimal n) n (record { all = digits_in_number (decimal n) is.digits; ends = end }) is)
