@@ -84,6 +84,13 @@ module _ {A B : Type 0} {ta : A → List Token} {tb : B → List Token} {IsA : A
 pub nothing : {p : Place} {rest : Bytes} → Prints (λ (x : ⊤). []) (λ (x : ⊤). ⊤) p [] rest
 nothing = record { tree = tt; is = tt; cuts = λ ts c. c }
 
+-- no lines
+pub no_lines : {p : Place} {rest : Bytes} → p.fresh ≡ true → Lines (λ (x : ⊤). []) (λ (x : ⊤). ⊤) p [] rest
+no_lines {p} fresh = record { place = p; fresh = fresh; moves = record { tree = tt; is = tt; cuts = λ ts c. c } }
+
+pub space : {p : Place} {rest : Bytes} → Prints (λ (x : ⊤). []) (λ (x : ⊤). ⊤) p (codes " ") rest
+space {p} {rest} = record { tree = tt; is = tt; cuts = λ ts c. goes p (32 ∷ []) rest piece.Space ts (white 32 refl) c }
+
 module _ {B : Type 0} {tb : B → List Token} {IsB : B → Type 0} where
   -- a space in front
   pub spaced : {p : Place} {b rest : Bytes} → Prints tb IsB (after_bytes p (codes " ")) b rest → Prints tb IsB p (codes " " ++ b) rest

@@ -4,3 +4,7 @@ mod Appends
 mod Chains
 mod Words
 mod ExpressionLaw
+mod PositionLaw
+mod SideLaw
+mod Printable
+mod StatementLaw

@@ -24,7 +24,7 @@ use Rattle.c_lexer.specs.declared.token.Word.{Word}
 use Rattle.c_lexer.specs.declared.token.Word.TheVariants as w
 use Rattle.c_lexer.specs.declared.piece.Piece.TheVariants as piece
 use Rattle.c_lexer.specs.declared.lexer.Place.{Place}
-use Rattle.c_expressions.specs.Tokens.{At, token, mark, operator, operator_number, keyword}
+use Rattle.c_expressions.specs.Tokens.{At, token, mark, operator, operator_number, keyword, assert_key, break_key, client_in_key, client_out_key, dsu_choice_key, else_key, if_key, int_key, return_key, void_key, while_key}
 use Rattle.merge_printer.proofs.Chains.{Prints}
 
 -- a token begins at this place
@@ -192,3 +192,50 @@ pub number_word : {p : Place} {rest : Bytes} (n : ℕ) → n ≤ 2147483647 → 
 number_word n le end =
     let is = is_number n le in
     single (w.Number (pos n)) (lexed.number (decimal n) n (record { all = digits_in_number (decimal n) is.digits; ends = end }) is)
+
+-- ---- keywords
+
+module _ {p : Place} {rest : Bytes} (end : IsEnd is_in_word rest) where
+  pub int_word : Key int_key p (codes "int") rest
+  unfolding keyword_number
+  int_word = key_word int_key (codes "int") refl refl end
+
+  pub void_word : Key void_key p (codes "void") rest
+  unfolding keyword_number
+  void_word = key_word void_key (codes "void") refl refl end
+
+  pub if_word : Key if_key p (codes "if") rest
+  unfolding keyword_number
+  if_word = key_word if_key (codes "if") refl refl end
+
+  pub else_word : Key else_key p (codes "else") rest
+  unfolding keyword_number
+  else_word = key_word else_key (codes "else") refl refl end
+
+  pub while_word : Key while_key p (codes "while") rest
+  unfolding keyword_number
+  while_word = key_word while_key (codes "while") refl refl end
+
+  pub break_word : Key break_key p (codes "break") rest
+  unfolding keyword_number
+  break_word = key_word break_key (codes "break") refl refl end
+
+  pub return_word : Key return_key p (codes "return") rest
+  unfolding keyword_number
+  return_word = key_word return_key (codes "return") refl refl end
+
+  pub assert_word : Key assert_key p (codes "assert") rest
+  unfolding keyword_number
+  assert_word = key_word assert_key (codes "assert") refl refl end
+
+  pub client_in_word : Key client_in_key p (codes "client_in") rest
+  unfolding keyword_number
+  client_in_word = key_word client_in_key (codes "client_in") refl refl end
+
+  pub client_out_word : Key client_out_key p (codes "client_out") rest
+  unfolding keyword_number
+  client_out_word = key_word client_out_key (codes "client_out") refl refl end
+
+  pub dsu_choice_word : Key dsu_choice_key p (codes "dsu_choice") rest
+  unfolding keyword_number
+  dsu_choice_word = key_word dsu_choice_key (codes "dsu_choice") refl refl end
