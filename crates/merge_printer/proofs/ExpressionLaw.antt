@@ -60,7 +60,7 @@ word_starts (byte ∷ x) rest h = let first = (and_both (is_letter byte) (list_a
     no_equals : is_letter byte ≡ true → (byte == 61) ≡ false
     no_equals h = grind (arith, nat_tests)
 
-digits_start : (ds rest : Bytes) → list_all is_digit ds ≡ true → 1 ≤ length ds → Starts (ds ++ rest)
+pub digits_start : (ds rest : Bytes) → list_all is_digit ds ≡ true → 1 ≤ length ds → Starts (ds ++ rest)
 digits_start [] rest h some = let never : ⊥ = omega arith in absurd never
 digits_start (byte ∷ ds) rest h some = let first = (and_both (is_digit byte) (list_all is_digit ds) h).0 in (no_minus first, no_equals first)
   where

@@ -8,3 +8,5 @@ mod PositionLaw
 mod SideLaw
 mod Printable
 mod StatementLaw
+mod HeadLaw
+mod GlobalLaw

@@ -19,6 +19,7 @@ use Rattle.c_lexer.specs.declared.token.Token.{Token}
 use Rattle.c_lexer.specs.declared.piece.Piece.TheVariants as piece
 use Rattle.c_lexer.specs.declared.lexer.Place.{Place}
 use Rattle.c_lexer.proofs.Cases.{and_both}
+use Rattle.c_lexer.proofs.Runs.{all_mono}
 use Rattle.merge_printer.specs.Statements.{position_text}
 use Rattle.merge_printer.proofs.Chains.{Lines}
 use Rattle.merge_printer.proofs.Words.{is_number}
@@ -27,14 +28,8 @@ use Rattle.merge_printer.proofs.Words.{is_number}
 line_of : Pos → Bytes
 line_of p = codes "#line" ++ (codes " " ++ (decimal p.line ++ (codes " " ++ quoted p.unit)))
 
-digits_in_line : (ds : Bytes) → list_all is_digit ds ≡ true → list_all is_in_line ds ≡ true
-digits_in_line [] h = refl
-digits_in_line (byte ∷ ds) h =
-    let both = and_both (is_digit byte) (list_all is_digit ds) h in
-    rw (no_feed both.0, digits_in_line ds both.1) refl
-  where
-    no_feed : is_digit byte ≡ true → (byte == 10) ≡ false
-    no_feed h = grind (arith, nat_tests)
+digit_in_line : (byte : ℕ) → is_digit byte ≡ true → is_in_line byte ≡ true
+digit_in_line byte h = grind (arith, nat_tests)
 
 unit_in_line : (u : Unit) → list_all is_in_line (codes " " ++ quoted u) ≡ true
 unit_in_line unit.Old = refl
@@ -49,7 +44,7 @@ line_in_line : (p : Pos) → IsPosition p → list_all is_in_line (line_of p) �
 unfolding line_of
 line_in_line p h =
     list_all-append is_in_line (decimal p.line) (codes " " ++ quoted p.unit)
-    ∙ rw (digits_in_line (decimal p.line) (is_number p.line h.2).digits, unit_in_line p.unit) refl
+    ∙ rw (all_mono is_digit is_in_line (decimal p.line) digit_in_line (is_number p.line h.2).digits, unit_in_line p.unit) refl
 
 sets_position : (p : Pos) → IsPosition p → SetsPosition (line_of p) p
 unfolding line_of

@@ -1,8 +1,7 @@
 -- The text of a statement is the tokens of a tree that becomes that statement.
 use Rattle.std.specs.Prelude.{⊤, ◌≡◌, ℕ, zero, suc, pos, ◌+◌, ◌≤◌, max, min, Bool, true, false, cond, if◌then◌else◌, List, [], ◌∷◌, ◌++◌, map, length, Option, Some, None, codes}
 use Rattle.std.proofs.Common.{refl, sym, ap, ap₂, subst, ◌∙◌, append_assoc, arith}
-use Rattle.std.specs.Prelude.{ltb}
-use Rattle.std.proofs.lemmas.Bool.Decides.{nat_tests}
+use Rattle.std.proofs.lemmas.Bool.{le-ltb}
 use Rattle.std.proofs.lemmas.List.{append-nil}
 use Rattle.std.specs.Fmt.{decimal}
 use Rattle.c_lang.specs.Names.{Bytes}
@@ -119,10 +118,7 @@ set_goes p x sc (right.Value a) h = (cond_same (is_declared sc x) _, cond_same (
 set_goes p x sc (right.Call a) h = rw h (refl, refl)
 
 no_refusal : (sc : Scope) (p : Pos) (n : ℕ) → n ≤ 32 → refuse_arity sc p n ≡ sc
-no_refusal sc p n le = ap (λ refusals. record { count = sc.count; declared = sc.declared; early = refusals }) (rw (le-ltb n 32 le) (append-nil sc.early))
-  where
-    le-ltb : (n m : ℕ) → n ≤ m → ltb m n ≡ false
-    le-ltb n m le = grind (arith, nat_tests)
+no_refusal sc p n le = ap (λ refusals. record { count = sc.count; declared = sc.declared; early = refusals }) (rw (le-ltb _ _ le) (append-nil sc.early))
 
 -- a right side up to its semicolon
 abbrev Ending : Bytes → Bytes

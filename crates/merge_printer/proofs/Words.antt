@@ -8,7 +8,7 @@ use Rattle.std.proofs.lemmas.Str.Parse.{IsNumeralModel, numerals_by_fold}
 use Rattle.std.proofs.lemmas.Bool.Decides.{nat_tests}
 use Rattle.c_lang.specs.Names.{Bytes, is_digit, is_letter, is_word, is_reserved}
 use Rattle.c_lexer.proofs.Cases.{and_both, and_false}
-use Rattle.c_lexer.proofs.Runs.{digit_in_number}
+use Rattle.c_lexer.proofs.Runs.{all_mono, digit_in_number}
 use Rattle.c_lang.specs.Operators.{operator_text}
 use Rattle.c_lang.specs.declared.expr.Op.{Op}
 use Rattle.c_lang.specs.declared.expr.Op.TheVariants as op
@@ -164,7 +164,7 @@ key_word k x is e end = single (w.Key k) (lexed.keyword x k (record { all = all_
 
 -- ---- numbers
 
-own : IsNumeralModel (λ ds. list_all is_digit ds ≡ true) (lexed.value 0)
+pub own : IsNumeralModel (λ ds. list_all is_digit ds ≡ true) (lexed.value 0)
 own = numerals_by_fold _ (search rules) lexed.value (search rules)
 
 plain_of : (n : ℕ) → n < 2 ^ 64 → 1 < length (decimal n) → slice_index (decimal n) 0 ≡ 48 → ⊥
@@ -182,16 +182,10 @@ is_number n le =
       fits = le;
     }
 
-digits_in_number : (ds : Bytes) → list_all is_digit ds ≡ true → list_all is_in_number ds ≡ true
-digits_in_number [] h = refl
-digits_in_number (byte ∷ ds) h =
-    let both = and_both (is_digit byte) (list_all is_digit ds) h in
-    rw (digit_in_number byte both.0, digits_in_number ds both.1) refl
-
 pub number_word : {p : Place} {rest : Bytes} (n : ℕ) → n ≤ 2147483647 → IsEnd is_in_number rest → Single (w.Number (pos n)) p (decimal n) rest
 number_word n le end =
     let is = is_number n le in
-    single (w.Number (pos n)) (lexed.number (decimal n) n (record { all = digits_in_number (decimal n) is.digits; ends = end }) is)
+    single (w.Number (pos n)) (lexed.number (decimal n) n (record { all = all_mono is_digit is_in_number (decimal n) digit_in_number is.digits; ends = end }) is)
 
 -- ---- keywords
 
