@@ -10,3 +10,5 @@ mod Printable
 mod StatementLaw
 mod HeadLaw
 mod GlobalLaw
+mod DeclarationLaw
+mod ProgramLaw

@@ -218,7 +218,7 @@ block_of : (in_loop : Bool) (ss : Statements) (o c : At) (ts : Pieces) → ArePi
 block_of in_loop ss o c ts is = record { valid = is.valid; closed = refl; height_is = is.height_is; becomes = is.become }
 
 -- a closing brace at its line's end
-closing : {q : Place} {rest : Bytes} → Lines (λ (at : At). mark brace_close at ∷ []) (λ (at : At). ⊤) q (codes "}\n") rest
+pub closing : {q : Place} {rest : Bytes} → Lines (λ (at : At). mark brace_close at ∷ []) (λ (at : At). ⊤) q (codes "}\n") rest
 closing = as_lines (λ (at : At). at) (λ at. refl) (λ at is. tt) (ended brace_closes)
 
 prints_block : (in_loop : Bool) (ss : Statements) (rest : Bytes) → ((p : Place) → p.fresh ≡ true → PrintsStatements in_loop ss p (codes "}\n" ++ rest)) → (q : Place)
