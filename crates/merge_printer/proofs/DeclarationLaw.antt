@@ -39,7 +39,6 @@ use Rattle.merge_printer.proofs.HeadLaw.{Param, ParamsFit, KindsFit, IsHeadOf, p
 pub record ProtoFits (p : Proto) : Type 0 where
   pub name : IsName p.name
   pub kinds : KindsFit p.params
-  pub few : length p.params < 2 ^ 63
 
 -- what a declaration's tree adds to the unit
 pub record IsDeclared (step : Parts → Parts) (Room : Parts → Type 0) (height : ℕ) (t : External) : Type 0 where
@@ -68,7 +67,7 @@ module _ (p : Proto) (fits : ProtoFits p) (rest : Bytes) where
       (subst (λ (z : Bytes). PrintsProto r z) (simp append_assoc)
       (as_lines (λ (y : HeadTree × At). External.prototype y.0 y.1) (λ y. refl)
       (λ y is. record { valid = tt; height_is = refl; added = λ a room. proto_is r here y.0 is.0 y.1 a })
-      (before (prints_head p.gives p.name numbered fits.name (numbered_fit 1 p.params (omega (arith, fits.few)) fits.kinds) _ _) (ended semicolon_mark))))
+      (before (prints_head p.gives p.name numbered fits.name (numbered_fit 1 p.params fits.kinds) _ _) (ended semicolon_mark))))
 
 pub prints_proto : (p : Proto) → ProtoFits p × IsPosition p.pos → (q : Place) (rest : Bytes) → q.fresh ≡ true
     → Lines external_tokens (IsDeclared (proto_step p) (λ a. ⊤) 0) q (proto_text p) rest

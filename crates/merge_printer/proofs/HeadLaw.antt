@@ -24,9 +24,7 @@ use Rattle.merge_printer.specs.Statements.{declaration}
 use Rattle.merge_printer.specs.Programs.{head_start, numbered, more_kinds, kinds_text, more_parameters, parameters_text}
 use Rattle.merge_printer.proofs.Chains.{Prints, followed, as_tree, spaced}
 use Rattle.merge_printer.proofs.Chains as chains
-use Rattle.merge_printer.proofs.Words.{IsName, own, name_word, int_word, void_word, comma_mark, round_opens, round_closes}
-use Rattle.c_lexer.proofs.Runs.{all_mono, digit_not_letter}
-use Rattle.std.proofs.lemmas.Fmt.{digits_decimal}
+use Rattle.merge_printer.proofs.Words.{IsName, numbered_word, name_word, int_word, void_word, comma_mark, round_opens, round_closes}
 use Rattle.merge_printer.proofs.Printable.{KindFits}
 use Rattle.merge_printer.proofs.StatementLaw.{IsPointerOf, prints_pointer}
 
@@ -157,17 +155,14 @@ pub kinds_of_numbered : (n : ℕ) (ks : List Kind) → map (λ (x : Param). x.0)
 kinds_of_numbered n [] = refl
 kinds_of_numbered n (k ∷ ks) = ap (λ (zs : List Kind). k ∷ zs) (kinds_of_numbered (n + 1) ks)
 
-digits_in_word : (ds : Bytes) → list_all is_digit ds ≡ true → list_all is_in_word ds ≡ true
-digits_in_word ds h = all_mono is_digit is_in_word ds (λ byte digit. rw (digit_not_letter byte digit, digit) refl) h
-
-number_name_fits : (n : ℕ) → n < 2 ^ 64 → IsName (number_name n)
+number_name_fits : (n : ℕ) → IsName (number_name n)
 unfolding keyword_number
-number_name_fits n small = (digits_in_word (decimal n) (digits_decimal own n small), refl)
+number_name_fits n = (numbered_word n, refl)
 
 abbrev pub KindsFit : List Kind → Type 0
 KindsFit [] = ⊤
 KindsFit (k ∷ ks) = KindFits k × KindsFit ks
 
-pub numbered_fit : (n : ℕ) (ks : List Kind) → n + length ks ≤ 2 ^ 64 → KindsFit ks → ParamsFit (numbered_from n ks)
-numbered_fit n [] few h = tt
-numbered_fit n (k ∷ ks) few h = ((h.0, number_name_fits n (omega (arith, few))), numbered_fit (n + 1) ks (omega (arith, few)) h.1)
+pub numbered_fit : (n : ℕ) (ks : List Kind) → KindsFit ks → ParamsFit (numbered_from n ks)
+numbered_fit n [] h = tt
+numbered_fit n (k ∷ ks) h = ((h.0, number_name_fits n), numbered_fit (n + 1) ks h.1)

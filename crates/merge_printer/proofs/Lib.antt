@@ -12,3 +12,8 @@ mod HeadLaw
 mod GlobalLaw
 mod DeclarationLaw
 mod ProgramLaw
+mod GivenTokens
+mod WrittenExpressions
+mod ReadScopes
+mod WrittenSides
+mod WrittenStatements

@@ -1,14 +1,16 @@
 -- The tokens of printed texts, each with the text that it has.
-use Rattle.std.specs.Prelude.{⊤, ◌≡◌, ◌≢◌, ℕ, pos, zero, suc, ◌+◌, ◌-◌, ◌*◌, ◌^◌, ◌<◌, ◌≤◌, Bool, true, false, ◌&&◌, ◌||◌, not, ◌==◌, List, [], ◌∷◌, ◌++◌, length, slice_index, Option, Some, None, codes}
+use Rattle.std.specs.Prelude.{⊤, ◌≡◌, ◌≢◌, ℕ, pos, zero, suc, ◌+◌, ◌-◌, ◌*◌, ◌/◌, ◌%◌, ◌^◌, ◌<◌, cond, ◌≤◌, Bool, true, false, ◌&&◌, ◌||◌, not, ◌==◌, List, [], ◌∷◌, ◌++◌, length, slice_index, Option, Some, None, codes}
 use Rattle.std.proofs.Common.{refl, sym, ap, subst, ◌∙◌, rules, arith}
-use Rattle.std.specs.Fmt.{decimal}
+use Rattle.std.specs.Fmt.{decimal, digits, digits_onto, digit_glyph}
+use Rattle.std.proofs.lemmas.Bool.{lt-ltb}
+use Rattle.std.proofs.Math.Nat.{mod-lt}
 use Rattle.std.specs.List.{list_all}
 use Rattle.std.proofs.lemmas.Fmt.{digits_decimal, digits_value-decimal, first_decimal, decimal_digit, decimal_nonempty}
 use Rattle.std.proofs.lemmas.Str.Parse.{IsNumeralModel, numerals_by_fold}
 use Rattle.std.proofs.lemmas.Bool.Decides.{nat_tests}
 use Rattle.c_lang.specs.Names.{Bytes, is_digit, is_letter, is_word, is_reserved}
 use Rattle.c_lexer.proofs.Cases.{and_both, and_false}
-use Rattle.c_lexer.proofs.Runs.{all_mono, digit_in_number}
+use Rattle.c_lexer.proofs.Runs.{all_mono, digit_not_letter, digit_in_number}
 use Rattle.c_lang.specs.Operators.{operator_text}
 use Rattle.c_lang.specs.declared.expr.Op.{Op}
 use Rattle.c_lang.specs.declared.expr.Op.TheVariants as op
@@ -164,7 +166,32 @@ key_word k x is e end = single (w.Key k) (lexed.keyword x k (record { all = all_
 
 -- ---- numbers
 
-pub own : IsNumeralModel (λ ds. list_all is_digit ds ≡ true) (lexed.value 0)
+-- every number is written with digits
+digit_of : (n : ℕ) → is_digit (digit_glyph false (n % 10)) ≡ true
+digit_of n = let below = mod-lt n (omega arith) in rw (lt-ltb (n % 10) 10 below) (digit_byte (n % 10) below)
+  where
+    digit_byte : (d : ℕ) → d < 10 → is_digit (48 + d) ≡ true
+    digit_byte d h = grind (arith, nat_tests)
+
+all_digits_onto : (k n : ℕ) (ds : Bytes) → list_all is_digit ds ≡ true → list_all is_digit (digits_onto k 10 false n ds) ≡ true
+all_digits_onto zero n ds h = h
+all_digits_onto (suc k) n ds h =
+    let next : list_all is_digit (digit_glyph false (n % 10) ∷ ds) ≡ true = rw (digit_of n, h) refl in
+    by_test _ _ (n / 10 == 0) next (all_digits_onto k (n / 10) (digit_glyph false (n % 10) ∷ ds) next)
+  where
+    by_test : (xs ys : Bytes) (b : Bool) → list_all is_digit xs ≡ true → list_all is_digit ys ≡ true → list_all is_digit (cond b xs ys) ≡ true
+    by_test xs ys true x y = x
+    by_test xs ys false x y = y
+
+pub all_digits : (n : ℕ) → list_all is_digit (decimal n) ≡ true
+unfolding digits
+all_digits n = all_digits_onto 64 n [] refl
+
+-- letters and then a number are a word
+pub numbered_word : (n : ℕ) → list_all is_in_word (decimal n) ≡ true
+numbered_word n = all_mono is_digit is_in_word (decimal n) (λ byte digit. rw (digit_not_letter byte digit, digit) refl) (all_digits n)
+
+own : IsNumeralModel (λ ds. list_all is_digit ds ≡ true) (lexed.value 0)
 own = numerals_by_fold _ (search rules) lexed.value (search rules)
 
 plain_of : (n : ℕ) → n < 2 ^ 64 → 1 < length (decimal n) → slice_index (decimal n) 0 ≡ 48 → ⊥
