@@ -1,6 +1,6 @@
 -- Texts whose tokens are known, one behind the other. A text prints a tree where, from a place on and
 -- with some rest behind it, it is cut into the tokens of that tree.
-use Rattle.std.specs.Prelude.{⊤, ◌≡◌, Bool, true, List, [], ◌∷◌, ◌++◌, codes}
+use Rattle.std.specs.Prelude.{⊤, ◌≡◌, true, List, [], ◌∷◌, ◌++◌, codes}
 use Rattle.std.proofs.Common.{refl, sym, subst, append_assoc}
 use Rattle.c_lang.specs.Names.{Bytes}
 use Rattle.c_lang.specs.declared.unit.Unit.TheVariants.{Merge}

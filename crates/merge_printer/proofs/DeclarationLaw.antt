@@ -1,37 +1,31 @@
 -- The texts of prototypes and functions are the tokens of trees of them, and so are lists of declarations.
-use Rattle.std.specs.Prelude.{⊤, ◌≡◌, ℕ, ◌+◌, ◌^◌, ◌<◌, ◌≤◌, max, Bool, true, false, List, [], ◌∷◌, ◌++◌, map, length, codes}
-use Rattle.std.proofs.Common.{refl, sym, ap, ap₂, subst, ◌∙◌, append_assoc, arith}
-use Rattle.std.proofs.lemmas.List.{append-nil}
+use Rattle.std.specs.Prelude.{⊤, ◌≡◌, ℕ, max, true, false, List, [], ◌∷◌, ◌++◌, map, codes}
+use Rattle.std.proofs.Common.{refl, sym, ap, subst, ◌∙◌, append_assoc}
 use Rattle.std.specs.List.{flat_map}
 use Rattle.c_lang.specs.Names.{Bytes}
 use Rattle.c_lang.specs.Layout.{IsPosition}
 use Rattle.c_lang.specs.Trees.{Statement, Statements, statement_of, statements, skip, set, set_element, call, call_by, if_else, while_loop, break_loop, return_with, assert_that, input, output, point, choice, force, pick, none, more}
-use Rattle.c_lang.specs.declared.unit.Pos.{Pos}
 use Rattle.c_lang.specs.declared.unit.Unit.TheVariants.{Merge}
-use Rattle.c_lang.specs.declared.refusal.Refusal.{Refusal}
-use Rattle.c_lang.specs.declared.stmt.Kind.{Kind}
-use Rattle.c_lang.specs.declared.stmt.Stmt.{Stmt}
 use Rattle.c_lang.specs.declared.stmt.Dest.{Dest}
 use Rattle.c_lang.specs.declared.stmt.Dest.TheVariants.{Nowhere, Into, Fresh}
 use Rattle.c_lang.specs.declared.program.Proto.{Proto}
 use Rattle.c_lang.specs.declared.program.Func.{Func}
 use Rattle.c_lexer.specs.declared.lexer.Place.{Place}
-use Rattle.c_lexer.specs.declared.token.Token.{Token}
-use Rattle.c_expressions.specs.Tokens.{At, mark, brace_open, brace_close}
+use Rattle.c_expressions.specs.Tokens.{At}
 use Rattle.c_statements.specs.Scopes.{Scope, declare}
-use Rattle.c_statements.specs.Statements.{Pieces, pieces_tokens, pieces_stmts, pieces_scope}
+use Rattle.c_statements.specs.Statements.{Pieces, pieces_scope}
 use Rattle.c_parser.specs.declared.parts.Parts.{Parts}
-use Rattle.c_parser.specs.Units.{HeadTree, head_tokens, param_list, param_kind, named_param, all_refusals, External, external_tokens, external_height, IsExternal, AreExternals, unit_tokens, unit_height, add, add_all, with_proto, with_func, body_start, all_declared, function_start}
+use Rattle.c_parser.specs.Units.{HeadTree, External, external_tokens, external_height, IsExternal, AreExternals, unit_tokens, unit_height, add, add_all, with_proto, with_func, body_start, all_declared}
 use Rattle.merge_printer.specs.Heights.{statements_height}
 use Rattle.merge_printer.specs.Plain.{stmts_of}
 use Rattle.merge_printer.specs.Positions.{StatementsHavePositions, FuncHasPositions}
-use Rattle.merge_printer.specs.Statements.{position_text, statements_text}
+use Rattle.merge_printer.specs.Statements.{statements_text}
 use Rattle.merge_printer.specs.Programs.{head_start, kinds_text, parameters_text, proto_text, func_text}
 use Rattle.merge_printer.proofs.Chains.{Lines, before, above, as_lines, spaced_lines, ended, no_lines}
-use Rattle.merge_printer.proofs.Words.{IsName, semicolon_mark, brace_opens, brace_closes}
+use Rattle.merge_printer.proofs.Words.{IsName, semicolon_mark, brace_opens}
 use Rattle.merge_printer.proofs.PositionLaw.{positioned}
-use Rattle.merge_printer.proofs.Printable.{StatementsFit, KeepsAll, declared_by, scope_behind, scope_behind_all}
-use Rattle.merge_printer.proofs.StatementLaw.{ArePiecesOf, PrintsStatements, prints_statements, closing}
+use Rattle.merge_printer.proofs.Fitting.{StatementsFit, KeepsAll, declared_by, scope_behind, scope_behind_all}
+use Rattle.merge_printer.proofs.StatementLaw.{ArePiecesOf, prints_statements, closing}
 use Rattle.merge_printer.proofs.HeadLaw.{Param, ParamsFit, KindsFit, IsHeadOf, prints_head, numbered_from, kinds_are_params, kinds_of_numbered, numbered_fit}
 
 -- ---- prototypes
@@ -81,12 +75,19 @@ start_scope params = body_start params []
 abbrev pub body_of : Func → Statements
 body_of f = statements (map statement_of f.body)
 
-pub record FuncFits (f : Func) : Type 0 where
+-- it is read again as it is
+pub record FuncReads (f : Func) : Type 0 where
   pub name : IsName f.name
   pub params : ParamsFit f.params
   pub body : StatementsFit false (body_of f)
   pub keeps : KeepsAll (start_scope f.params) (body_of f)
-  pub built : stmts_of (body_of f) ≡ f.body
+
+-- and its body is what its mirror builds
+abbrev pub IsBuilt : Func → Type 0
+IsBuilt f = stmts_of (body_of f) ≡ f.body
+
+abbrev pub FuncFits : Func → Type 0
+FuncFits f = FuncReads f × IsBuilt f
 
 declare_keeps : (d : Dest) (sc : Scope) → (declared_by d sc).early ≡ sc.early
 declare_keeps Nowhere sc = refl
@@ -116,7 +117,7 @@ mutual
   all_early_same none sc = refl
   all_early_same (more s ss) sc = all_early_same ss (scope_behind s sc) ∙ early_same s sc
 
-params_early : (params : List Param) (sc : Scope) → (all_declared params sc).early ≡ sc.early
+pub params_early : (params : List Param) (sc : Scope) → (all_declared params sc).early ≡ sc.early
 params_early [] sc = refl
 params_early (x ∷ xs) sc = params_early xs (declare sc x.1)
 
@@ -130,10 +131,10 @@ module _ (f : Func) (fits : FuncFits f) (rest : Bytes) where
   func_is : (r : Place) → r.pos ≡ f.pos → (h : HeadTree) → IsHeadOf f.gives f.name f.params r h → (o c : At) (ts : Pieces) → ArePiecesOf false (body_of f) ts
       → (a : Parts) → add a (External.function h o ts c) ≡ func_step f a
   func_is r here h is o c ts pieces a =
-      let became = pieces.become (start_scope f.params) fits.keeps in
+      let became = pieces.become (start_scope f.params) fits.0.keeps in
       let early : (pieces_scope ts (start_scope f.params)).early ≡ [] =
-          ap (λ (sc : Scope). sc.early) became.1 ∙ all_early_same (body_of f) (start_scope f.params) ∙ params_early f.params (record { count = 0; declared = []; early = [] }) in
-      rw (is.name_is, is.gives_is, is.position ∙ here, is.params_are, is.accepted f.pos, became.0, fits.built, early) refl
+      ap (λ (sc : Scope). sc.early) became.1 ∙ all_early_same (body_of f) (start_scope f.params) ∙ params_early f.params (record { count = 0; declared = []; early = [] }) in
+      rw (is.name_is, is.gives_is, is.position ∙ here, is.params_are, is.accepted f.pos, became.0, fits.1, early) refl
 
   func_lines : StatementsHavePositions (body_of f) → (r : Place) → r.pos ≡ f.pos
       → PrintsFunc r (head_start f.gives f.name ++ (codes "(" ++ (parameters_text f.params ++ (codes ") {\n" ++ (statements_text (body_of f) ++ codes "}\n")))))
@@ -145,8 +146,8 @@ module _ (f : Func) (fits : FuncFits f) (rest : Bytes) where
         height_is = is.1.1.0.height_is;
         added = λ a room. func_is r here y.0 is.0 y.1.0 y.1.1.1 y.1.1.0 is.1.1.0 a;
       })
-      (before (prints_head f.gives f.name f.params fits.name fits.params _ _) (spaced_lines
-      (above (ended brace_opens) (λ q fresh. above (prints_statements (body_of f) false fits.body at q _ fresh) (λ q fresh. closing))))))
+      (before (prints_head f.gives f.name f.params fits.0.name fits.0.params _ _) (spaced_lines
+      (above (ended brace_opens) (λ q fresh. above (prints_statements (body_of f) false fits.0.body at q _ fresh) (λ q fresh. closing))))))
 
 pub prints_func : (f : Func) → FuncFits f × FuncHasPositions f → (q : Place) (rest : Bytes) → q.fresh ≡ true
     → Lines external_tokens (IsDeclared (func_step f) (λ a. ⊤) (statements_height (body_of f))) q (func_text f) rest

@@ -1,20 +1,17 @@
 -- The text of an expression is the tokens of a tree of that expression.
-use Rattle.std.specs.Prelude.{⊤, ◌≡◌, ℕ, ℤ, pos, ◌+◌, ◌<◌, ◌≤◌, max, Bool, true, false, cond, ltb, if◌then◌else◌, nat_lt, ◌==◌, List, [], ◌∷◌, ◌++◌, length, slice_index, codes}
-use Rattle.std.proofs.Common.{refl, sym, ap, ap₂, subst, ◌∙◌, append_assoc, arith}
-use Rattle.std.specs.Fmt.{decimal, signed_decimal}
+use Rattle.std.specs.Prelude.{◌≡◌, ℕ, ℤ, pos, ◌+◌, ◌<◌, ◌≤◌, Bool, true, false, cond, ltb, ◌==◌, [], ◌∷◌, ◌++◌, length, codes}
+use Rattle.std.proofs.Common.{refl, sym, ap, ap₂, subst, append_assoc, arith}
+use Rattle.std.specs.Fmt.{decimal}
 use Rattle.std.specs.List.{list_all}
-use Rattle.std.proofs.lemmas.Bool.{ltb-true, ltb-false, lt-ltb}
+use Rattle.std.proofs.lemmas.Bool.{ltb-false, lt-ltb}
 use Rattle.std.proofs.lemmas.Bool.Decides.{nat_tests}
 use Rattle.c_lang.specs.Names.{Bytes, is_digit, is_word, is_letter}
 use Rattle.c_lang.specs.Operators.{level}
 use Rattle.c_lang.specs.declared.expr.Op.{Op}
 use Rattle.c_lang.specs.declared.expr.Op.TheVariants as op
-use Rattle.c_lang.specs.declared.expr.Expr.{Expr}
 use Rattle.c_lang.specs.declared.expr.Expr.TheVariants as expr
 use Rattle.c_lang.specs.Trees.{Expression, literal, variable, element, function, null, negation, logical_not, binary, expr_of}
 use Rattle.c_lexer.specs.Bytes.{is_in_word, is_in_number, IsEnd}
-use Rattle.c_lexer.specs.declared.token.Token.{Token}
-use Rattle.c_lexer.specs.declared.token.Word.TheVariants as w
 use Rattle.c_lexer.specs.declared.lexer.Place.{Place}
 use Rattle.c_lexer.proofs.Cases.{and_both, or_false}
 use Rattle.c_expressions.specs.Tokens.{At}

@@ -1,22 +1,19 @@
 -- The texts of globals are the tokens of trees of them.
-use Rattle.std.specs.Prelude.{⊤, ◌⊎◌, ◌≡◌, ℕ, ℤ, zero, suc, pos, negsuc, ◌+◌, ◌-◌, ◌-ℤ◌, ◌≤◌, Bool, true, false, if◌then◌else◌, cond, ◌==◌, List, [], ◌∷◌, ◌++◌, map, length, reverse, replicate, Option, Some, None, codes}
+use Rattle.std.specs.Prelude.{⊤, ◌⊎◌, ◌≡◌, ℕ, ℤ, zero, suc, pos, negsuc, ◌+◌, ◌-◌, ◌-ℤ◌, ◌≤◌, true, false, ◌==◌, List, [], ◌∷◌, ◌++◌, map, length, reverse, replicate, Option, Some, None, codes}
 use Rattle.std.proofs.Common.{refl, sym, ap, ap₂, subst, ◌∙◌, append_assoc, arith, inl, inr}
-use Rattle.std.proofs.lemmas.List.{append-nil, length-append, length-replicate, reverse-append, reverse-reverse, length-reverse, replicate-append-replicate}
+use Rattle.std.proofs.lemmas.List.{append-nil, reverse-append, reverse-reverse, length-reverse, replicate-append-replicate}
 use Rattle.std.proofs.lemmas.Bool.{le-leb, le-ltb}
 use Rattle.std.proofs.lemmas.Bool.Decides.{nat_tests}
 use Rattle.std.proofs.lemmas.Fmt.{decimal_digit}
 use Rattle.std.specs.Fmt.{decimal, signed_decimal}
 use Rattle.c_lang.specs.Names.{Bytes}
-use Rattle.c_lang.specs.Values.{is_zero}
 use Rattle.c_lang.specs.Layout.{IsPosition}
 use Rattle.c_lang.specs.declared.unit.Pos.{Pos}
 use Rattle.c_lang.specs.declared.unit.Unit.TheVariants.{Merge}
 use Rattle.c_lang.specs.declared.program.Shape.{Shape}
 use Rattle.c_lang.specs.declared.program.Shape.TheVariants as shape
 use Rattle.c_lang.specs.declared.program.GlobalVar.{GlobalVar}
-use Rattle.c_lang.specs.declared.stmt.Kind.TheVariants as kind
 use Rattle.c_lexer.specs.Bytes.{is_in_number, IsEnd}
-use Rattle.c_lexer.specs.declared.token.Word.TheVariants as w
 use Rattle.c_lexer.specs.declared.lexer.Place.{Place}
 use Rattle.c_expressions.specs.Tokens.{At, mark, semicolon}
 use Rattle.c_expressions.specs.Separated.{Separated, last, more, parts_of, separated_tokens}
@@ -24,11 +21,11 @@ use Rattle.c_statements.specs.Statements.{PointerTree, arity}
 use Rattle.c_parser.specs.declared.parts.Parts.{Parts}
 use Rattle.c_parser.specs.Units.{SignedTree, plain, negative, signed_tokens, signed_value, NumberInit, ArrayInit, array_init_tokens, values_of, PointerInit, pointer_init_tokens, target_of, External, external_tokens, external_height, IsExternal, add, with_global, array_refusals, kept_values}
 use Rattle.c_parser.specs.Units as unit
-use Rattle.merge_printer.specs.Statements.{declaration, position_text}
 use Rattle.merge_printer.specs.Programs.{without_zeros, shown_elements, more_numbers, initializer, pointer_value, int_text, array_text, pointer_text, shape_text, global_text}
 use Rattle.merge_printer.proofs.Chains.{Prints, Lines, followed, before, as_tree, as_lines, spaced, spaced_lines, ended}
 use Rattle.merge_printer.proofs.Chains as chains
 use Rattle.merge_printer.proofs.Words.{IsName, name_word, number_word, int_word, comma_mark, equals_mark, minus_mark, semicolon_mark, square_opens, square_closes, brace_opens, brace_closes, is_number}
+use Rattle.merge_printer.proofs.Fitting.{no_arity_refusals}
 use Rattle.merge_printer.proofs.PositionLaw.{positioned}
 use Rattle.merge_printer.proofs.StatementLaw.{IsPointerOf, prints_pointer}
 use Rattle.merge_printer.proofs.ExpressionLaw.{digits_start}
@@ -225,7 +222,7 @@ module _ (x : Bytes) (given : Pos) (h : IsName x) (q : Place) (rest : Bytes) (he
 
       pointer_is : {p : Pos} (t : PointerTree) (i : PointerInit) → p ≡ given → IsPointerOf x n t → target_of i ≡ f → (a : Parts)
           → unit.with_pointer a p t.name (arity t) (target_of i) ≡ with_global a (made (shape.Fp n f)) 1 []
-      pointer_is t i at is target a = rw (at, is.name_is, is.arity_is, target, le-ltb _ _ (few f fits)) refl
+      pointer_is t i at is target a = rw (at, is.name_is, is.arity_is, target, no_arity_refusals given n (few f fits)) refl
 
       prints_value : {q : Place} (f : Option Bytes) → ShapeFits 0 (shape.Fp n f)
           → Lines (λ (y : PointerInit × At). pointer_init_tokens y.0 ++ (mark semicolon y.1 ∷ [])) (λ (y : PointerInit × At). (target_of y.0 ≡ f) × ⊤) q (codes " = " ++ (pointer_value f ++ codes ";\n")) rest

@@ -1,32 +1,26 @@
 -- The texts of heads and of prototypes are the tokens of trees of them.
-use Rattle.std.specs.Prelude.{⊤, ◌≡◌, ℕ, ◌+◌, ◌^◌, ◌<◌, ◌≤◌, ◌||◌, length, Bool, true, false, if◌then◌else◌, List, [], ◌∷◌, ◌++◌, map, codes, Option, None}
-use Rattle.std.proofs.Common.{refl, sym, ap, ap₂, subst, ◌∙◌, append_assoc, arith}
+use Rattle.std.specs.Prelude.{⊤, ◌≡◌, ℕ, ◌+◌, Bool, true, false, List, [], ◌∷◌, ◌++◌, map, codes}
+use Rattle.std.proofs.Common.{refl, sym, ap, ap₂, arith}
 use Rattle.std.proofs.lemmas.List.{append-nil}
-use Rattle.std.proofs.lemmas.Bool.{le-ltb}
 use Rattle.std.specs.Fmt.{decimal}
-use Rattle.std.specs.List.{list_all}
-use Rattle.c_lang.specs.Names.{Bytes, is_digit, is_letter}
+use Rattle.c_lang.specs.Names.{Bytes}
 use Rattle.c_lang.specs.declared.unit.Pos.{Pos}
-use Rattle.c_lang.specs.declared.unit.Unit.TheVariants.{Merge}
-use Rattle.c_lang.specs.declared.refusal.Refusal.{Refusal}
 use Rattle.c_lang.specs.declared.stmt.Kind.{Kind}
 use Rattle.c_lang.specs.declared.stmt.Kind.TheVariants as kind
-use Rattle.c_lang.specs.declared.program.Proto.{Proto}
 use Rattle.c_lexer.specs.Bytes.{is_in_word, IsEnd}
 use Rattle.c_lexer.specs.Words.{keyword_number}
 use Rattle.c_lexer.specs.declared.lexer.Place.{Place}
-use Rattle.c_expressions.specs.Tokens.{At, token}
+use Rattle.c_expressions.specs.Tokens.{At}
 use Rattle.c_expressions.specs.Separated.{Separated, last, more, parts_of, separated_tokens, Each}
-use Rattle.c_statements.specs.Scopes.{arity_refusals}
 use Rattle.c_statements.specs.Statements.{PointerTree, arity}
-use Rattle.c_parser.specs.Units.{ParamTree, number, pointer, ParamsTree, void, several, HeadTree, param_tokens, params_tokens, head_tokens, param_list, param_kind, param_name, param_refusals, all_refusals, IsNamed, AreNamed, named_param}
+use Rattle.c_parser.specs.Units.{ParamTree, number, pointer, ParamsTree, void, several, HeadTree, param_tokens, params_tokens, head_tokens, param_list, param_kind, param_refusals, all_refusals, IsNamed, AreNamed, named_param}
 use Rattle.merge_printer.specs.Statements.{declaration}
 use Rattle.merge_printer.specs.Programs.{head_start, numbered, more_kinds, kinds_text, more_parameters, parameters_text}
 use Rattle.merge_printer.proofs.Chains.{Prints, followed, as_tree, spaced}
 use Rattle.merge_printer.proofs.Chains as chains
 use Rattle.merge_printer.proofs.Words.{IsName, numbered_word, name_word, int_word, void_word, comma_mark, round_opens, round_closes}
-use Rattle.merge_printer.proofs.Printable.{KindFits}
-use Rattle.merge_printer.proofs.StatementLaw.{IsPointerOf, prints_pointer}
+use Rattle.merge_printer.proofs.Fitting.{KindFits, no_arity_refusals}
+use Rattle.merge_printer.proofs.StatementLaw.{prints_pointer}
 
 abbrev pub Param : Type 0
 Param = Kind × Bytes
@@ -45,9 +39,6 @@ record IsParamOf (x : Param) (t : ParamTree) : Type 0 where
   named : IsNamed t
   accepted : (p : Pos) → param_refusals p t ≡ []
 
-no_refusals : (p : Pos) (n : ℕ) → n ≤ 32 → arity_refusals p n ≡ []
-no_refusals p n le = rw (le-ltb _ _ le) refl
-
 prints_param : (k : Kind) (x : Bytes) → KindFits k → IsName x → (p : Place) (rest : Bytes) → IsEnd is_in_word rest
     → Prints param_tokens (IsParamOf (k, x)) p (declaration k x) rest
 prints_param kind.Int x hk hx p rest end =
@@ -58,7 +49,7 @@ prints_param (kind.Fp n) x hk hx p rest end =
     (λ y is. record {
       param_is = ap₂ (λ (n : ℕ) (x : Bytes). (kind.Fp n, x)) is.1.arity_is is.1.name_is;
       named = tt;
-      accepted = λ p. no_refusals p (arity y.1) (omega (arith, is.1.arity_is, hk));
+      accepted = λ p. no_arity_refusals p (arity y.1) (omega (arith, is.1.arity_is, hk));
     })
     (followed (int_word refl) (spaced (prints_pointer x n hx hk _ _)))
 

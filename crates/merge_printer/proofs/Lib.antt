@@ -6,7 +6,7 @@ mod Words
 mod ExpressionLaw
 mod PositionLaw
 mod SideLaw
-mod Printable
+mod Fitting
 mod StatementLaw
 mod HeadLaw
 mod GlobalLaw
@@ -17,3 +17,6 @@ mod WrittenExpressions
 mod ReadScopes
 mod WrittenSides
 mod WrittenStatements
+mod WrittenProgram
+mod PlainLaw
+mod PrintLaw

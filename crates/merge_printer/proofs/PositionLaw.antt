@@ -1,18 +1,17 @@
 -- The line that gives a position moves to that position.
-use Rattle.std.specs.Prelude.{◌≡◌, ℕ, ◌+◌, ◌-◌, ◌≤◌, Bool, true, false, ◌&&◌, not, ◌==◌, List, [], ◌∷◌, ◌++◌, codes}
+use Rattle.std.specs.Prelude.{◌≡◌, ℕ, ◌+◌, ◌-◌, true, false, not, ◌==◌, List, [], ◌∷◌, ◌++◌, codes}
 use Rattle.std.proofs.Common.{refl, sym, ap, subst, ◌∙◌, append_assoc, arith}
 use Rattle.std.specs.Fmt.{decimal}
 use Rattle.std.specs.List.{list_all}
 use Rattle.std.proofs.lemmas.Bool.Decides.{nat_tests}
 use Rattle.std.proofs.lemmas.List.Folds.{list_all-append}
 use Rattle.c_lang.specs.Names.{Bytes, is_digit}
-use Rattle.c_lang.specs.Units.{word}
 use Rattle.c_lang.specs.Layout.{IsPosition}
 use Rattle.c_lang.specs.declared.unit.Unit.{Unit}
 use Rattle.c_lang.specs.declared.unit.Unit.TheVariants as unit
 use Rattle.c_lang.specs.declared.unit.Unit.TheVariants.{Merge}
 use Rattle.c_lang.specs.declared.unit.Pos.{Pos}
-use Rattle.c_lexer.specs.Bytes.{is_in_line, is_space}
+use Rattle.c_lexer.specs.Bytes.{is_in_line}
 use Rattle.c_lexer.specs.Pieces.{SetsPosition, quoted, white, position_line}
 use Rattle.c_lexer.specs.Lexed.{Cuts, goes, after_byte, after_bytes, behind}
 use Rattle.c_lexer.specs.declared.token.Token.{Token}
@@ -101,8 +100,8 @@ positioned {B} {tb} {IsB} {p} {b} {rest} given h fresh f =
         cuts = λ ts c.
             subst (λ (z : Bytes). Cuts Merge p z (tb x.moves.tree ++ ts)) (sym (lined given b rest))
             (goes p (line_of given) (codes "\n" ++ (b ++ rest)) (piece.Position given) (tb x.moves.tree ++ ts)
-              (position_line (line_of given) given fresh refl (record { all = line_in_line given h; ends = refl }) (sets_position given h))
-              (goes (behind p (piece.Position given) (line_of given)) (codes "\n") (b ++ rest) piece.Space (tb x.moves.tree ++ ts) (white 10 refl)
-                (x.moves.cuts ts c)));
+            (position_line (line_of given) given fresh refl (record { all = line_in_line given h; ends = refl }) (sets_position given h))
+            (goes (behind p (piece.Position given) (line_of given)) (codes "\n") (b ++ rest) piece.Space (tb x.moves.tree ++ ts) (white 10 refl)
+            (x.moves.cuts ts c)));
       };
     }

@@ -1,9 +1,8 @@
 -- The text of a program is the tokens of a tree that becomes that program.
-use Rattle.std.specs.Prelude.{⊤, ◌≡◌, ℕ, ◌+◌, ◌-◌, ◌≤◌, max, true, List, [], ◌∷◌, ◌++◌, map, All, codes}
-use Rattle.std.proofs.Common.{refl, sym, ap, ap₂, subst, ◌∙◌, append_assoc, arith}
+use Rattle.std.specs.Prelude.{⊤, ◌≡◌, ℕ, ◌-◌, ◌≤◌, max, true, List, [], ◌∷◌, ◌++◌, All, codes}
+use Rattle.std.proofs.Common.{refl, sym, ap, subst, ◌∙◌, append_assoc, arith}
 use Rattle.std.proofs.lemmas.List.{append-nil}
 use Rattle.std.proofs.lemmas.List.Elements.{All-head, All-tail}
-use Rattle.std.specs.List.{flat_map}
 use Rattle.c_lang.specs.Names.{Bytes}
 use Rattle.c_lang.specs.Layout.{IsPosition}
 use Rattle.c_lang.specs.declared.unit.Unit.TheVariants.{Merge}
@@ -17,7 +16,7 @@ use Rattle.c_lexer.specs.declared.token.Token.{Token}
 use Rattle.c_lexer.specs.declared.piece.Piece.TheVariants as piece
 use Rattle.c_lexer.specs.declared.lexer.Place.{Place}
 use Rattle.c_parser.specs.declared.parts.Parts.{Parts}
-use Rattle.c_parser.specs.Units.{External, external_tokens, external_height, AreExternals, unit_tokens, unit_height, add, add_all, no_parts, cell_limit, with_global}
+use Rattle.c_parser.specs.Units.{External, external_tokens, AreExternals, unit_tokens, unit_height, add, add_all, no_parts, cell_limit, with_global}
 use Rattle.c_parser.specs.Grammar.{Gram, program_of}
 use Rattle.merge_printer.specs.Heights.{statements_height, funcs_height}
 use Rattle.merge_printer.specs.Positions.{FuncHasPositions, ProgramHasPositions}
@@ -91,7 +90,7 @@ module _ {T : Type 0} (step : T → Parts → Parts) (height : T → ℕ) (text 
 abbrev accepted : List GlobalVar → List Proto → List Func → ℕ → Parts
 accepted gs ps fs room = record { globals = gs; protos = ps; funcs = fs; room = room; early_globals = []; early_protos = []; early_funcs = [] }
 
-abbrev room_after : ℕ → List GlobalVar → ℕ
+abbrev pub room_after : ℕ → List GlobalVar → ℕ
 room_after room [] = room
 room_after room (g ∷ gs) = room_after (room - cells g.shape) gs
 
@@ -202,12 +201,12 @@ module _ (P : Program) (fits : ProgramFits P) (at : ProgramHasPositions P) where
       (λ q fresh. prints_all func_step (λ f a. ⊤) (λ f. statements_height (body_of f)) func_text GoodFunc prints_func P.funcs (both_good func_step (λ f. statements_height (body_of f)) func_text FuncFits FuncHasPositions prints_func P.funcs fits.funcs at.funcs) q _ fresh))))
 
   -- the text has tokens that are the program
-  pub record IsPrinted (deep : ℕ) : Type 0 where
+  pub record HasTokens (deep : ℕ) : Type 0 where
     pub tokens : List Token
     pub lexed : Lexed Merge (program_text P) tokens
     pub gram : Gram Merge deep tokens P
 
-  pub prints_program : (deep : ℕ) → funcs_height P.funcs ≤ deep → IsPrinted deep
+  pub prints_program : (deep : ℕ) → funcs_height P.funcs ≤ deep → HasTokens deep
   prints_program deep fit =
       let x = unit_lines.moves in
       record {

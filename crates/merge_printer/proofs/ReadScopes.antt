@@ -1,6 +1,6 @@
 -- What is declared where a printed body is read again: all that was declared where it was first read.
-use Rattle.std.specs.Prelude.{⊤, ◌⊎◌, ◌≡◌, ◌≤◌, ℕ, ◌+◌, Bool, true, false, cond, ◌||◌, bytes_eq, nat_lt, List, [], ◌∷◌, ◌++◌, map, codes}
-use Rattle.std.proofs.Common.{refl, sym, ap, ap₂, subst, ◌∙◌, append_assoc, arith, inl, inr}
+use Rattle.std.specs.Prelude.{◌⊎◌, ◌≡◌, ◌≤◌, ℕ, Bool, true, false, cond, ◌||◌, bytes_eq, nat_lt, List, [], ◌∷◌, ◌++◌, map}
+use Rattle.std.proofs.Common.{refl, sym, ap, subst, ◌∙◌, inl, inr}
 use Rattle.std.specs.List.{list_any}
 use Rattle.std.proofs.lemmas.List.Folds.{list_any-append}
 use Rattle.std.proofs.lemmas.Bool.{ltb-false}
@@ -12,7 +12,7 @@ use Rattle.c_lang.specs.declared.refusal.Refusal.{Refusal}
 use Rattle.std.proofs.lemmas.Slice.Eq.{bytes_eq-Decides}
 use Rattle.c_lexer.proofs.Cases.{same_bytes}
 use Rattle.c_statements.specs.Scopes.{Scope, is_declared, declare, refusal, arity_refusals}
-use Rattle.merge_printer.proofs.Printable.{StatementFits, StatementsFit, scope_behind, scope_behind_all, Keeps, KeepsAll}
+use Rattle.merge_printer.proofs.Fitting.{StatementFits, StatementsFit, scope_behind, scope_behind_all, Keeps, KeepsAll}
 
 -- ---- what is declared
 

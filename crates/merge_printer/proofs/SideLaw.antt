@@ -1,6 +1,6 @@
 -- The texts of calls are the tokens of trees of these calls.
-use Rattle.std.specs.Prelude.{⊤, ◌≡◌, ℕ, pos, ◌+◌, ◌≤◌, max, List, [], ◌∷◌, ◌++◌, map, codes, All}
-use Rattle.std.proofs.Common.{refl, sym, ap, ap₂, subst, ◌∙◌, arith}
+use Rattle.std.specs.Prelude.{⊤, ◌≡◌, ℕ, ◌+◌, ◌≤◌, max, List, [], ◌∷◌, ◌++◌, map, codes}
+use Rattle.std.proofs.Common.{refl, sym, ap, ap₂, arith}
 use Rattle.std.proofs.lemmas.List.{append-nil}
 use Rattle.std.specs.Fmt.{decimal}
 use Rattle.c_lang.specs.Names.{Bytes}
@@ -17,7 +17,7 @@ use Rattle.c_statements.specs.declared.right.Call.{Call}
 use Rattle.c_statements.specs.declared.right.Call.TheVariants as call
 use Rattle.c_statements.specs.declared.right.Right.{Right}
 use Rattle.c_statements.specs.declared.right.Right.TheVariants as right
-use Rattle.c_statements.specs.Statements.{Arguments, nothing, given, FunctionCall, function, input, choice, CallTree, SideTree, value, called, argument_tokens, call_tokens, side_tokens, tallest, part_height, call_height, side_height, AreArguments, IsCall, IsSide, exprs_of, call_of, right_of, call_pos}
+use Rattle.c_statements.specs.Statements.{Arguments, nothing, given, function, input, choice, CallTree, SideTree, value, called, argument_tokens, call_tokens, side_tokens, tallest, part_height, call_height, side_height, AreArguments, IsCall, IsSide, exprs_of, call_of, right_of, call_pos}
 use Rattle.merge_printer.specs.Expressions.{expression_text, expressions_text, more_expressions}
 use Rattle.merge_printer.specs.Heights.{expression_height, arguments_height}
 use Rattle.merge_printer.specs.Statements.{call_text}
@@ -84,7 +84,7 @@ module _ (p : Place) (rest : Bytes) where
       as_tree
       (λ (x : At × (At × (Arguments × At))). function (record { at = x.0; callee = f; opens = x.1.0; arguments = x.1.1.0; closes = x.1.1.1 })) (λ x. refl)
       (λ x is. let a = is.1.1.0 in
-          record { valid = a.are; program = ap (call.Function f) a.programs; height_is = ap (λ (n : ℕ). n + 1) a.height_is; position = is.0 })
+      record { valid = a.are; program = ap (call.Function f) a.programs; height_is = ap (λ (n : ℕ). n + 1) a.height_is; position = is.0 })
       (followed (name_word h refl) (followed round_opens (followed (prints_arguments es hs _ _ refl) round_closes)))
 
   pub prints_input : PrintsCall call.Input 1 (codes "client_in()") p rest

@@ -1,7 +1,6 @@
 -- The text of a statement is the tokens of a tree that becomes that statement.
-use Rattle.std.specs.Prelude.{⊤, ◌≡◌, ℕ, zero, suc, pos, ◌+◌, ◌≤◌, max, min, Bool, true, false, cond, if◌then◌else◌, List, [], ◌∷◌, ◌++◌, map, length, Option, Some, None, codes}
+use Rattle.std.specs.Prelude.{⊤, ◌≡◌, ℕ, zero, suc, ◌+◌, ◌≤◌, Bool, true, false, cond, List, [], ◌∷◌, ◌++◌, map, length, Some, None, codes}
 use Rattle.std.proofs.Common.{refl, sym, ap, ap₂, subst, ◌∙◌, append_assoc, arith}
-use Rattle.std.proofs.lemmas.Bool.{le-ltb}
 use Rattle.std.proofs.lemmas.List.{append-nil}
 use Rattle.std.specs.Fmt.{decimal}
 use Rattle.c_lang.specs.Names.{Bytes}
@@ -25,21 +24,21 @@ use Rattle.c_statements.specs.declared.right.Call.{Call}
 use Rattle.c_statements.specs.declared.right.Call.TheVariants as c
 use Rattle.c_statements.specs.declared.right.Right.{Right}
 use Rattle.c_statements.specs.declared.right.Right.TheVariants as right
-use Rattle.c_statements.specs.Scopes.{Scope, is_declared, declare, refuse_arity, arity_refusals}
+use Rattle.c_statements.specs.Scopes.{Scope, is_declared, declare, refuse_arity}
 use Rattle.c_statements.specs.Statements.{CallTree, SideTree, PointerTree, Ints, ints_tokens, int_tokens, ints_count, pointer_tokens, arity, CondTree, cond_tokens, Simple, Piece, Body, Pieces, IsPiece, IsBody, ArePieces, body_tokens, pieces_tokens, body_height, pieces_height, body_scope, pieces_scope, body_stmts, pieces_stmts, set_stmts, set_scope, right_to, call_to, stmts, scope_after}
 use Rattle.c_statements.specs.Statements as tree
 use Rattle.merge_printer.specs.Heights.{expression_height, arguments_height, statement_height, statements_height}
 use Rattle.merge_printer.specs.Plain.{stmt_of, stmts_of}
 use Rattle.merge_printer.specs.Positions.{StatementHasPositions, StatementsHavePositions}
 use Rattle.merge_printer.specs.Expressions.{expression_text}
-use Rattle.merge_printer.specs.Statements.{more_ints, ints, target, call_text, else_text, statement_text, statements_text, position_text}
+use Rattle.merge_printer.specs.Statements.{more_ints, ints, target, call_text, statement_text, statements_text}
 use Rattle.merge_printer.proofs.Chains.{Prints, Lines, followed, before, above, as_tree, as_lines, space, spaced, spaced_lines, ended}
 use Rattle.merge_printer.proofs.Chains as chains
-use Rattle.merge_printer.proofs.Words.{IsName, name_word, int_word, void_word, if_word, else_word, while_word, break_word, return_word, assert_word, client_out_word, comma_mark, star_mark, equals_mark, semicolon_mark, round_opens, round_closes, square_opens, square_closes, brace_opens, brace_closes, Here}
+use Rattle.merge_printer.proofs.Words.{IsName, name_word, int_word, void_word, if_word, else_word, while_word, break_word, return_word, assert_word, client_out_word, comma_mark, star_mark, equals_mark, semicolon_mark, round_opens, round_closes, square_opens, square_closes, brace_opens, brace_closes}
 use Rattle.merge_printer.proofs.PositionLaw.{positioned}
 use Rattle.merge_printer.proofs.ExpressionLaw.{ExpressionFits, IsTreeOf, prints}
-use Rattle.merge_printer.proofs.SideLaw.{ExpressionsFit, PrintsCall, PrintsSide, IsSideOf, IsCallOf, prints_call, prints_input, prints_choice, prints_value, prints_called}
-use Rattle.merge_printer.proofs.Printable.{KindFits, DestFits, TargetFits, StatementFits, StatementsFit, declared_by, scope_behind, scope_behind_all, GoesAtOnce, Keeps, KeepsAll}
+use Rattle.merge_printer.proofs.SideLaw.{ExpressionsFit, PrintsCall, PrintsSide, prints_call, prints_input, prints_choice, prints_value, prints_called}
+use Rattle.merge_printer.proofs.Fitting.{DestFits, TargetFits, StatementFits, StatementsFit, declared_by, scope_behind, scope_behind_all, MayGo, Keeps, KeepsAll, no_arity_refusals}
 
 -- ---- pointers
 
@@ -98,11 +97,6 @@ PrintsStatements in_loop ss p rest = Lines pieces_tokens (ArePiecesOf in_loop ss
 
 -- ---- right sides and where they go
 
--- a value, or a call whose result goes there at once
-abbrev MayGo : Scope → Dest → Right → Type 0
-MayGo sc d (right.Value a) = ⊤
-MayGo sc d (right.Call a) = GoesAtOnce sc d
-
 record IsSided (in_loop : Bool) (given : Pos) (d : Dest) (r : Right) (height : ℕ) (t : Piece) : Type 0 where
   valid : IsPiece Merge true in_loop t
   height_is : tree.height t ≡ height + 1
@@ -118,7 +112,7 @@ set_goes p x sc (right.Value a) h = (cond_same (is_declared sc x) _, cond_same (
 set_goes p x sc (right.Call a) h = rw h (refl, refl)
 
 no_refusal : (sc : Scope) (p : Pos) (n : ℕ) → n ≤ 32 → refuse_arity sc p n ≡ sc
-no_refusal sc p n le = ap (λ refusals. record { count = sc.count; declared = sc.declared; early = refusals }) (rw (le-ltb _ _ le) (append-nil sc.early))
+no_refusal sc p n le = ap (λ refusals. record { count = sc.count; declared = sc.declared; early = refusals }) (ap (λ refusals. sc.early ++ refusals) (no_arity_refusals p n le) ∙ append-nil sc.early)
 
 -- a right side up to its semicolon
 abbrev Ending : Bytes → Bytes
@@ -166,7 +160,7 @@ module _ (in_loop : Bool) (given : Pos) (r : Right) (height : ℕ) (z : Bytes) (
           height_is = ap (λ n. n + 1) is.1.0.height_is;
           becomes = λ sc may. (
             ap₂ (λ p a. right_to p (Fresh (kind.Fp (arity y.0.0.1)) y.0.0.1.name) a ∷ []) (is.0.0.0 ∙ here) is.1.0.program
-            ∙ ap₂ (λ n x. right_to given (Fresh (kind.Fp n) x) r ∷ []) pointer.arity_is pointer.name_is,
+                ∙ ap₂ (λ n x. right_to given (Fresh (kind.Fp n) x) r ∷ []) pointer.arity_is pointer.name_is,
             no_refusal (declare sc y.0.0.1.name) y.0.0.0.pos (arity y.0.0.1) (omega (arith, pointer.arity_is, le)) ∙ ap (declare sc) pointer.name_is,
           );
         })
@@ -376,7 +370,7 @@ module _ (in_loop : Bool) (given : Pos) (q : Place) (rest : Bytes) (here : q.pos
       → ((p : Place) (rest : Bytes) → p.fresh ≡ true → PrintsStatements in_loop ss p rest)
       → ((p : Place) (rest : Bytes) → p.fresh ≡ true → PrintsStatements in_loop (more n ns) p rest)
       → Printed (if_else given e ss (more n ns))
-        (codes "if (" ++ (expression_text e ++ (codes ") {\n" ++ (statements_text ss ++ (codes "} else {\n" ++ (statements_text (more n ns) ++ codes "}\n"))))))
+      (codes "if (" ++ (expression_text e ++ (codes ") {\n" ++ (statements_text ss ++ (codes "} else {\n" ++ (statements_text (more n ns) ++ codes "}\n"))))))
   prints_if_else e ss n ns h inner other =
       subst (λ (z : Bytes). Printed (if_else given e ss (more n ns)) z) (simp append_assoc)
       (as_lines (λ (y : At × (CondTree × (At × (Pieces × (At × (At × Body)))))). tree.if_else y.0 y.1.0 (tree.block y.1.1.0 y.1.1.1.0 y.1.1.1.1.0) y.1.1.1.1.1.0 y.1.1.1.1.1.1)
@@ -414,8 +408,8 @@ mutual
       positioned x at.0 fresh (λ q here. prints_if in_loop x q rest here e a h.0 (λ p fresh. prints_statements a in_loop h.1 at.1 p _ fresh))
   prints_statement (if_else x e a (more n ns)) in_loop h at p rest fresh =
       positioned x at.0 fresh (λ q here. prints_if_else in_loop x q rest here e a n ns h.0
-        (λ p rest fresh. prints_statements a in_loop h.1 at.1 p rest fresh)
-        (λ p rest fresh. prints_statements (more n ns) in_loop h.2 at.2 p rest fresh))
+      (λ p rest fresh. prints_statements a in_loop h.1 at.1 p rest fresh)
+      (λ p rest fresh. prints_statements (more n ns) in_loop h.2 at.2 p rest fresh))
   prints_statement (while_loop x e a) in_loop h at p rest fresh =
       positioned x at.0 fresh (λ q here. prints_while in_loop x q rest here e a h.0 (λ p fresh. prints_statements a true h.1 at.1 p _ fresh))
   prints_statement (break_loop x) in_loop h at p rest fresh = positioned x at fresh (λ q here. prints_break in_loop x q rest here h)

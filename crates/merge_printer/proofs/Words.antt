@@ -1,6 +1,6 @@
 -- The tokens of printed texts, each with the text that it has.
-use Rattle.std.specs.Prelude.{⊤, ◌≡◌, ◌≢◌, ℕ, pos, zero, suc, ◌+◌, ◌-◌, ◌*◌, ◌/◌, ◌%◌, ◌^◌, ◌<◌, cond, ◌≤◌, Bool, true, false, ◌&&◌, ◌||◌, not, ◌==◌, List, [], ◌∷◌, ◌++◌, length, slice_index, Option, Some, None, codes}
-use Rattle.std.proofs.Common.{refl, sym, ap, subst, ◌∙◌, rules, arith}
+use Rattle.std.specs.Prelude.{◌≡◌, ℕ, pos, zero, suc, ◌+◌, ◌/◌, ◌%◌, ◌^◌, ◌<◌, cond, ◌≤◌, Bool, true, false, ◌==◌, [], ◌∷◌, ◌++◌, length, slice_index, Some, None, codes}
+use Rattle.std.proofs.Common.{refl, ap, rules, arith}
 use Rattle.std.specs.Fmt.{decimal, digits, digits_onto, digit_glyph}
 use Rattle.std.proofs.lemmas.Bool.{lt-ltb}
 use Rattle.std.proofs.Math.Nat.{mod-lt}
@@ -15,13 +15,12 @@ use Rattle.c_lang.specs.Operators.{operator_text}
 use Rattle.c_lang.specs.declared.expr.Op.{Op}
 use Rattle.c_lang.specs.declared.expr.Op.TheVariants as op
 use Rattle.c_lang.specs.declared.unit.Unit.TheVariants.{Merge}
-use Rattle.c_lexer.specs.Bytes.{is_in_word, is_in_number, IsEnd, IsRun}
+use Rattle.c_lexer.specs.Bytes.{is_in_word, is_in_number, IsEnd}
 use Rattle.c_lexer.specs.Words.{keyword_number, is_refused, is_allowed}
 use Rattle.c_lexer.specs.Punctuators.{punctuator_number, IsLongest}
 use Rattle.c_lexer.specs.Pieces.{IsPiece, IsNumber, begins_comment}
 use Rattle.c_lexer.specs.Pieces as lexed
-use Rattle.c_lexer.specs.Lexed.{goes, after_bytes}
-use Rattle.c_lexer.specs.declared.token.Token.{Token}
+use Rattle.c_lexer.specs.Lexed.{goes}
 use Rattle.c_lexer.specs.declared.token.Word.{Word}
 use Rattle.c_lexer.specs.declared.token.Word.TheVariants as w
 use Rattle.c_lexer.specs.declared.piece.Piece.TheVariants as piece

@@ -1,12 +1,9 @@
 -- The trees of tokens that a text has become expressions and calls that a text can have.
-use Rattle.std.specs.Prelude.{⊤, ◌≡◌, ◌≤◌, ℕ, ℤ, pos, List, [], ◌∷◌, ◌++◌, map}
-use Rattle.std.proofs.Common.{refl, sym, ap, subst, ◌∙◌, arith}
-use Rattle.c_lang.specs.Names.{Bytes}
-use Rattle.c_lang.specs.Trees.{Expression, expression_of}
+use Rattle.std.specs.Prelude.{List, [], ◌∷◌, map}
+use Rattle.c_lang.specs.Trees.{expression_of}
 use Rattle.c_lang.specs.declared.expr.Expr.{Expr}
 use Rattle.c_lang.proofs.TreeLemmas.{expression_of-Lit, expression_of-Var, expression_of-Elem, expression_of-Neg, expression_of-Not, expression_of-Bin}
-use Rattle.c_lexer.specs.declared.token.Token.{Token}
-use Rattle.c_expressions.specs.Tokens.{At, mark, square_close, round_close, comma, operator}
+use Rattle.c_expressions.specs.Tokens.{mark, square_close, round_close, comma, operator}
 use Rattle.c_expressions.specs.Separated.{Separated, last, more, parts_of, separated_tokens}
 use Rattle.c_expressions.specs.Expressions.{Tree, number, name, element, brackets, negated, denied, joined, tokens_of}
 use Rattle.c_expressions.specs.Expressions as e

@@ -1,12 +1,10 @@
 -- Right sides of a text, and where they go, are read again as what they became.
-use Rattle.std.specs.Prelude.{⊤, ◌≡◌, ◌≤◌, ℕ, ℤ, pos, ◌+◌, Bool, true, false, cond, List, [], ◌∷◌, ◌++◌, map, codes, nat_abs}
-use Rattle.std.proofs.Common.{refl, sym, ap, ap₂, subst, ◌∙◌, arith}
-use Rattle.std.specs.Fmt.{decimal}
+use Rattle.std.specs.Prelude.{⊤, ◌≡◌, ◌≤◌, ℕ, ◌+◌, Bool, true, false, cond, [], ◌∷◌, ◌++◌, map, nat_abs}
+use Rattle.std.proofs.Common.{refl, sym, ap, subst}
 use Rattle.c_lang.specs.Names.{Bytes}
-use Rattle.c_lang.specs.Trees.{Statement, statement_of, expression_of, set, call, input, choice}
+use Rattle.c_lang.specs.Trees.{expression_of, set, call, input, choice}
 use Rattle.c_lang.specs.declared.unit.Pos.{Pos}
 use Rattle.c_lang.specs.declared.expr.Expr.{Expr}
-use Rattle.c_lang.specs.declared.expr.Expr.TheVariants as e
 use Rattle.c_lang.specs.declared.stmt.Kind.TheVariants as kind
 use Rattle.c_lang.specs.declared.stmt.Dest.{Dest}
 use Rattle.c_lang.specs.declared.stmt.Dest.TheVariants.{Nowhere, Into, Fresh}
@@ -17,14 +15,14 @@ use Rattle.c_statements.specs.declared.right.Call.{Call}
 use Rattle.c_statements.specs.declared.right.Call.TheVariants as c
 use Rattle.c_statements.specs.declared.right.Right.{Right}
 use Rattle.c_statements.specs.declared.right.Right.TheVariants as right
-use Rattle.c_statements.specs.Scopes.{Scope, is_declared, declare, one_more, temporary}
+use Rattle.c_statements.specs.Scopes.{Scope, is_declared, one_more, temporary}
 use Rattle.c_statements.specs.Statements.{CallTree, function, SideTree, value, called, argument_tokens, call_tokens, side_tokens, call_of, right_of, call_to, right_to, stored, set_stmts, set_scope}
 use Rattle.c_statements.specs.Statements as tree
 use Rattle.merge_printer.proofs.Words.{IsName, numbered_word}
-use Rattle.merge_printer.proofs.Printable.{DestFits, TargetFits, declared_by, scope_behind_all, GoesAtOnce}
+use Rattle.merge_printer.proofs.Fitting.{DestFits, TargetFits, declared_by, scope_behind_all, GoesAtOnce, MayGo}
 use Rattle.merge_printer.proofs.GivenTokens.{TokensFit, fit_append}
 use Rattle.merge_printer.proofs.WrittenExpressions.{ExprFits, ExprsFit, tree_fits, arguments_fit}
-use Rattle.merge_printer.proofs.ReadScopes.{Covers, covers_more, declared_now, mirror, Reads, none_read, one_read, both_read}
+use Rattle.merge_printer.proofs.ReadScopes.{Covers, covers_more, mirror, Reads, none_read, one_read, both_read}
 
 -- ---- calls and right sides that a text can have
 
@@ -47,11 +45,6 @@ side_fits (value t) h = tree_fits t h
 side_fits (called t) h = call_fits t h
 
 -- ---- where they go
-
--- a call's result goes there at once
-abbrev pub MayGo : Scope → Dest → Right → Type 0
-MayGo now d (right.Value a) = ⊤
-MayGo now d (right.Call a) = GoesAtOnce now d
 
 module _ (in_loop : Bool) (now after : Scope) where
   pub call_read : (p : Pos) (d : Dest) (a : Call) → CallFits a → DestFits d → GoesAtOnce now d → Covers after (declared_by d now) → Reads in_loop (call_to p d a ∷ []) now after

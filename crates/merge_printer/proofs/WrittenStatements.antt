@@ -1,30 +1,25 @@
 -- The statements of a text are read again, when they are printed, as the statements that they are.
-use Rattle.std.specs.Prelude.{⊤, ◌≡◌, ◌≤◌, ℕ, pos, ◌+◌, Bool, true, false, cond, List, [], ◌∷◌, ◌++◌, map, Some, None}
-use Rattle.std.proofs.Common.{refl, sym, ap, subst, ◌∙◌, arith}
-use Rattle.std.specs.Option.{option_map}
+use Rattle.std.specs.Prelude.{◌≡◌, Bool, true, false, cond, [], ◌∷◌, ◌++◌, Some, None}
 use Rattle.c_lang.specs.Names.{Bytes}
-use Rattle.c_lang.specs.Trees.{expression_of, statement_of, skip, set_element, if_else, while_loop, break_loop, return_with, assert_that, output}
+use Rattle.c_lang.specs.Trees.{expression_of, skip, set_element, if_else, while_loop, break_loop, return_with, assert_that, output}
 use Rattle.c_lang.specs.declared.unit.Pos.{Pos}
 use Rattle.c_lang.specs.declared.unit.Unit.TheVariants.{Merge}
-use Rattle.c_lang.specs.declared.expr.Expr.{Expr}
-use Rattle.c_lang.specs.declared.refusal.Refusal.{Refusal}
 use Rattle.c_lang.specs.declared.stmt.Kind.TheVariants as kind
-use Rattle.c_lang.specs.declared.stmt.Dest.TheVariants.{Nowhere, Into, Fresh}
+use Rattle.c_lang.specs.declared.stmt.Dest.TheVariants.{Nowhere, Fresh}
 use Rattle.c_lang.specs.declared.stmt.Stmt.{Stmt}
 use Rattle.c_lang.specs.declared.stmt.Stmt.TheVariants as stmt
 use Rattle.c_lang.proofs.TreeLemmas.{statement_of-Skip, statement_of-SetElem, statement_of-If, statement_of-While, statement_of-Break, statement_of-Return, statement_of-Assert, statement_of-Output}
-use Rattle.c_lexer.specs.declared.token.Token.{Token}
-use Rattle.c_expressions.specs.Tokens.{At, mark, keyword, round_close, square_close, brace_close, semicolon, equals, else_key}
+use Rattle.c_expressions.specs.Tokens.{mark, keyword, round_close, square_close, brace_close, semicolon, equals, else_key}
 use Rattle.c_expressions.specs.Expressions as e
 use Rattle.c_statements.specs.declared.right.Right.{Right}
 use Rattle.c_statements.specs.declared.right.Right.TheVariants as right
 use Rattle.c_statements.specs.Scopes.{Scope, is_declared, declare}
 use Rattle.c_statements.specs.Statements.{CondTree, cond_tokens, side_tokens, call_tokens, pointer_tokens, ints_tokens, arity, Simple, simple_tokens, simple_scope, simple_stmts, IsSimple, Piece, Body, Pieces, tokens, body_tokens, pieces_tokens, IsPiece, IsBody, ArePieces, stmts, body_stmts, pieces_stmts, scope_after, body_scope, pieces_scope, right_of, call_of, call_pos, right_to, stored, set_scope}
 use Rattle.c_statements.specs.Statements as tree
-use Rattle.merge_printer.proofs.Printable.{StatementsFit, KeepsAll, scope_behind_all}
+use Rattle.merge_printer.proofs.Fitting.{MayGo, scope_behind_all}
 use Rattle.merge_printer.proofs.GivenTokens.{TokensFit, fit_append}
 use Rattle.merge_printer.proofs.WrittenExpressions.{ExprFits, tree_fits}
-use Rattle.merge_printer.proofs.WrittenSides.{RightFits, MayGo, call_fits, side_fits, call_read, right_read, StoredReads, stored_read, set_read}
+use Rattle.merge_printer.proofs.WrittenSides.{RightFits, call_fits, side_fits, call_read, right_read, stored_read, set_read}
 use Rattle.merge_printer.proofs.ReadScopes.{Covers, covers_both, mirror, Reads, none_read, one_read, both_read, none_before, few_parameters}
 
 -- ---- what is refused later was refused before

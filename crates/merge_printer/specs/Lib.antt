@@ -4,3 +4,4 @@ pub mod Programs
 pub mod Heights
 pub mod Plain
 pub mod Positions
+pub mod Printable

@@ -1,6 +1,6 @@
 -- The program that a printed program is read back as: names of functions are variables, null is 0, and a call
 -- of a pointer is a call.
-use Rattle.std.specs.Prelude.{pos, List, [], ◌∷◌, map, Option, Some, None}
+use Rattle.std.specs.Prelude.{pos, List, [], ◌∷◌, map}
 use Rattle.std.specs.Option.{option_map}
 use Rattle.c_lang.specs.Trees.{Expression, literal, variable, element, function, null, negation, logical_not, binary, expr_of, Statement, Statements, skip, set, set_element, call, call_by, if_else, while_loop, break_loop, return_with, assert_that, input, output, point, choice, force, pick, none, more, statement_of, statements}
 use Rattle.c_lang.specs.declared.stmt.Stmt.{Stmt}

@@ -9,4 +9,4 @@ mod statements;
 mod tests;
 mod text;
 
-pub use program::program_text;
+pub use program::{print_program, program_text};

@@ -2,6 +2,10 @@
 
 ghost use Rattle.std.specs.Prelude.{◌≡◌, ◌++◌, ◌+◌, ◌<◌, IfOk, OnOk, codes, length};
 ghost use Rattle.std.specs.List.{flat_map};
+ghost use Rattle.c_lang.specs.declared.unit.Unit.TheVariants.{Merge};
+ghost use Rattle.c_parser.specs.Written.{Parses};
+ghost use Rattle.merge_printer.specs.Plain.{plain};
+ghost use Rattle.merge_printer.specs.Printable.{IsPrintable};
 ghost use Rattle.merge_printer.specs.Programs as spec;
 ghost use Rattle.merge_printer.specs.Statements.{position_text};
 
@@ -24,6 +28,21 @@ pub fn program_text(alloc: Global, program: &Program) -> Result<Vec<u8>, AllocEr
     put_globals(&mut out, program.globals.as_slice())?;
     put_funcs(&mut out, program.funcs.as_slice())?;
     Ok(out)
+}
+
+/// The text of a merged program that is read back as that program: lexed and parsed as unit Merge it
+/// is the same program, positions included, where names of functions are variables, null is the
+/// literal 0 and a call of a pointer is a call.
+///
+/// The program is written in unit Merge and nothing is refused of it; its positions have lines from
+/// 1 to 2147483647 in units of programs; and its text is at most 72 high and has at most 72 brackets
+/// open at once. The only error is want of memory.
+pub fn print_program(alloc: Global, program: &Program) -> Result<Vec<u8>, AllocError>
+    requires { IsPrintable (plain program.now) }
+    ensures text { IfOk result (λ text. text.items ≡ spec.program_text program.now) }
+    ensures parses { IfOk result (λ text. Parses Merge 72 text.items (plain program.now)) }
+{
+    program_text(alloc, program)
 }
 
 fn put_protos(out: &mut Vec<u8>, protos: &[Proto]) -> Result<(), AllocError>

@@ -1,11 +1,16 @@
 -- Statements that a merged text can have, and what they declare.
-use Rattle.std.specs.Prelude.{⊤, ◌≡◌, ◌≤◌, Bool, true, Some, None}
+use Rattle.std.specs.Prelude.{⊤, ◌≡◌, ◌≤◌, ℕ, Bool, true, [], Some, None}
+use Rattle.std.proofs.Common.{refl}
+use Rattle.std.proofs.lemmas.Bool.{le-ltb}
 use Rattle.c_lang.specs.Trees.{Statement, Statements, skip, set, set_element, call, call_by, if_else, while_loop, break_loop, return_with, assert_that, input, output, point, choice, force, pick, none, more}
 use Rattle.c_lang.specs.declared.stmt.Kind.{Kind}
 use Rattle.c_lang.specs.declared.stmt.Kind.TheVariants as kind
 use Rattle.c_lang.specs.declared.stmt.Dest.{Dest}
 use Rattle.c_lang.specs.declared.stmt.Dest.TheVariants.{Nowhere, Into, Fresh}
-use Rattle.c_statements.specs.Scopes.{Scope, is_declared, declare}
+use Rattle.c_lang.specs.declared.unit.Pos.{Pos}
+use Rattle.c_statements.specs.declared.right.Right.{Right}
+use Rattle.c_statements.specs.declared.right.Right.TheVariants as right
+use Rattle.c_statements.specs.Scopes.{Scope, is_declared, declare, arity_refusals}
 use Rattle.merge_printer.proofs.Words.{IsName}
 use Rattle.merge_printer.proofs.ExpressionLaw.{ExpressionFits}
 use Rattle.merge_printer.proofs.SideLaw.{ExpressionsFit}
@@ -13,6 +18,9 @@ use Rattle.merge_printer.proofs.SideLaw.{ExpressionsFit}
 abbrev pub KindFits : Kind → Type 0
 KindFits kind.Int = ⊤
 KindFits (kind.Fp n) = n ≤ 32
+
+pub no_arity_refusals : (p : Pos) (n : ℕ) → n ≤ 32 → arity_refusals p n ≡ []
+no_arity_refusals p n le = rw (le-ltb _ _ le) refl
 
 abbrev pub DestFits : Dest → Type 0
 DestFits Nowhere = ⊤
@@ -84,6 +92,11 @@ abbrev pub GoesAtOnce : Scope → Dest → Type 0
 GoesAtOnce sc (Into x) = is_declared sc x ≡ true
 GoesAtOnce sc Nowhere = ⊤
 GoesAtOnce sc (Fresh k x) = ⊤
+
+-- a value, or a call whose result goes there at once
+abbrev pub MayGo : Scope → Dest → Right → Type 0
+MayGo sc d (right.Value a) = ⊤
+MayGo sc d (right.Call a) = GoesAtOnce sc d
 
 abbrev mutual
   pub Keeps : Scope → Statement → Type 0

@@ -1,0 +1,131 @@
+-- A program and its plain form have the same text.
+use Rattle.std.specs.Prelude.{◌≡◌, List, [], ◌∷◌, ◌++◌, map, All, Some, None, codes}
+use Rattle.std.proofs.Common.{refl, ap, ap₂, ◌∙◌, arith}
+use Rattle.std.specs.List.{flat_map}
+use Rattle.std.proofs.lemmas.Fmt.{decimal_digit}
+use Rattle.std.proofs.lemmas.List.Elements.{All-nil, All-cons}
+use Rattle.c_lang.specs.Names.{Bytes}
+use Rattle.c_lang.specs.Trees.{Expression, literal, variable, element, function, null, negation, logical_not, binary, expression_of, expr_of, Statement, Statements, skip, set, set_element, call, call_by, if_else, while_loop, break_loop, return_with, assert_that, input, output, point, choice, force, pick, none, more, statement_of, statements}
+use Rattle.c_lang.specs.declared.program.Func.{Func}
+use Rattle.c_lang.specs.declared.program.Program.{Program}
+use Rattle.c_lang.proofs.TreeLemmas.{expression_of-expr_of, statement_of-Skip, statement_of-Set, statement_of-SetElem, statement_of-Call, statement_of-CallBy, statement_of-If, statement_of-While, statement_of-Break, statement_of-Return, statement_of-Assert, statement_of-Input, statement_of-Output, statement_of-Point, statement_of-Choice, statement_of-Force, statement_of-Pick}
+use Rattle.merge_printer.specs.Expressions.{binds, gap, expression_text, expressions_text, more_expressions}
+use Rattle.merge_printer.specs.Statements.{statement_text, statements_text}
+use Rattle.merge_printer.specs.Programs.{func_text, program_text}
+use Rattle.merge_printer.specs.Plain.{plain_expression, plain_statement, plain_statements, stmt_of, stmts_of, plain_func, plain}
+use Rattle.merge_printer.proofs.DeclarationLaw.{body_of, IsBuilt}
+
+-- ---- the way back
+
+exprs_back : (es : List Expression) → map expression_of (map expr_of es) ≡ es
+exprs_back [] = refl
+exprs_back (e ∷ es) = ap₂ (λ (x : Expression) (xs : List Expression). x ∷ xs) (expression_of-expr_of e) (exprs_back es)
+
+mutual
+  -- a statement that is built from its mirror has that mirror
+  pub statement_back : (s : Statement) → statement_of (stmt_of s) ≡ s
+  statement_back (skip p) = statement_of-Skip p
+  statement_back (set p d e) = statement_of-Set p d (expr_of e) ∙ ap (set p d) (expression_of-expr_of e)
+  statement_back (set_element p a i e) = statement_of-SetElem p a (expr_of i) (expr_of e) ∙ ap₂ (set_element p a) (expression_of-expr_of i) (expression_of-expr_of e)
+  statement_back (call p d f es) = statement_of-Call p d f (map expr_of es) ∙ ap (call p d f) (exprs_back es)
+  statement_back (call_by p d x es) = statement_of-CallBy p d x (map expr_of es) ∙ ap (call_by p d x) (exprs_back es)
+  statement_back (if_else p e a b) =
+      statement_of-If p (expr_of e) (stmts_of a) (stmts_of b)
+      ∙ ap₂ (λ (x : Expression) (xs : Statements). if_else p x xs (statements (map statement_of (stmts_of b)))) (expression_of-expr_of e) (statements_back a)
+      ∙ ap (if_else p e a) (statements_back b)
+  statement_back (while_loop p e a) = statement_of-While p (expr_of e) (stmts_of a) ∙ ap₂ (while_loop p) (expression_of-expr_of e) (statements_back a)
+  statement_back (break_loop p) = statement_of-Break p
+  statement_back (return_with p None) = statement_of-Return p None
+  statement_back (return_with p (Some e)) = statement_of-Return p (Some (expr_of e)) ∙ ap (λ (x : Expression). return_with p (Some x)) (expression_of-expr_of e)
+  statement_back (assert_that p e) = statement_of-Assert p (expr_of e) ∙ ap (assert_that p) (expression_of-expr_of e)
+  statement_back (input p d) = statement_of-Input p d
+  statement_back (output p e) = statement_of-Output p (expr_of e) ∙ ap (output p) (expression_of-expr_of e)
+  statement_back (point p k) = statement_of-Point p k
+  statement_back (choice p d k) = statement_of-Choice p d k
+  statement_back (force p) = statement_of-Force p
+  statement_back (pick p a b) = statement_of-Pick p (stmt_of a) (stmt_of b) ∙ ap₂ (pick p) (statement_back a) (statement_back b)
+
+  pub statements_back : (ss : Statements) → statements (map statement_of (stmts_of ss)) ≡ ss
+  statements_back none = refl
+  statements_back (more s ss) = ap₂ more (statement_back s) (statements_back ss)
+
+-- ---- texts
+
+same_binds : (e : Expression) → binds (plain_expression e) ≡ binds e
+same_binds (literal z) = refl
+same_binds (variable x) = refl
+same_binds (element a i) = refl
+same_binds (function f) = refl
+same_binds null = refl
+same_binds (negation e) = refl
+same_binds (logical_not e) = refl
+same_binds (binary o a b) = refl
+
+same_gap : (e : Expression) → gap (plain_expression e) ≡ gap e
+same_gap (literal z) = refl
+same_gap (variable x) = refl
+same_gap (element a i) = refl
+same_gap (function f) = refl
+same_gap null = refl
+same_gap (negation e) = refl
+same_gap (logical_not e) = refl
+same_gap (binary o a b) = refl
+
+same_expression : (e : Expression) → expression_text (plain_expression e) ≡ expression_text e
+same_expression (literal z) = refl
+same_expression (variable x) = refl
+same_expression (element a i) = ap (λ (z : Bytes). a ++ (codes "[" ++ (z ++ codes "]"))) (same_expression i)
+same_expression (function f) = refl
+same_expression null = decimal_digit 0 (omega arith)
+same_expression (negation e) = rw (same_gap e, same_binds e, same_expression e) refl
+same_expression (logical_not e) = rw (same_binds e, same_expression e) refl
+same_expression (binary o a b) = rw (same_binds a, same_expression a, same_binds b, same_expression b) refl
+
+same_more : (es : List Expression) → more_expressions (map plain_expression es) ≡ more_expressions es
+same_more [] = refl
+same_more (e ∷ es) = rw (same_expression e, same_more es) refl
+
+same_expressions : (es : List Expression) → expressions_text (map plain_expression es) ≡ expressions_text es
+same_expressions [] = refl
+same_expressions (e ∷ es) = rw (same_expression e, same_more es) refl
+
+mutual
+  same_statement : (s : Statement) → statement_text (plain_statement s) ≡ statement_text s
+  same_statement (skip p) = refl
+  same_statement (set p d e) = rw (same_expression e) refl
+  same_statement (set_element p a i e) = rw (same_expression i, same_expression e) refl
+  same_statement (call p d f es) = rw (same_expressions es) refl
+  same_statement (call_by p d x es) = rw (same_expressions es) refl
+  same_statement (if_else p e a none) = rw (same_expression e, same_statements a) refl
+  same_statement (if_else p e a (more s ss)) = rw (same_expression e, same_statements a, same_statement s, same_statements ss) refl
+  same_statement (while_loop p e a) = rw (same_expression e, same_statements a) refl
+  same_statement (break_loop p) = refl
+  same_statement (return_with p None) = refl
+  same_statement (return_with p (Some e)) = rw (same_expression e) refl
+  same_statement (assert_that p e) = rw (same_expression e) refl
+  same_statement (input p d) = refl
+  same_statement (output p e) = rw (same_expression e) refl
+  same_statement (point p k) = refl
+  same_statement (choice p d k) = refl
+  same_statement (force p) = refl
+  same_statement (pick p a b) = rw (same_statement a, same_statement b) refl
+
+  same_statements : (ss : Statements) → statements_text (plain_statements ss) ≡ statements_text ss
+  same_statements none = refl
+  same_statements (more s ss) = ap₂ (λ (a b : Bytes). a ++ b) (same_statement s) (same_statements ss)
+
+same_body : (f : Func) → statements_text (body_of (plain_func f)) ≡ statements_text (body_of f)
+same_body f = ap statements_text (statements_back (plain_statements (body_of f))) ∙ same_statements (body_of f)
+
+same_funcs : (fs : List Func) → flat_map func_text (map plain_func fs) ≡ flat_map func_text fs
+same_funcs [] = refl
+same_funcs (f ∷ fs) = rw (same_body f, same_funcs fs) refl
+
+pub same_text : (P : Program) → program_text (plain P) ≡ program_text P
+same_text P = rw (same_funcs P.funcs) refl
+
+-- ---- bodies
+
+pub all_built : (fs : List Func) → All IsBuilt (map plain_func fs)
+all_built [] = All-nil IsBuilt
+all_built (f ∷ fs) = All-cons IsBuilt (plain_func f) (map plain_func fs) (ap stmts_of (statements_back (plain_statements (body_of f)))) (all_built fs)
