@@ -63,6 +63,10 @@ fn main(rt: HostRuntime) -> io::Result<()> {
 '''
 
 CRATES = ["c_lang", "c_lexer", "c_expressions", "c_statements", "c_parser"]
+PROGRAMS = [
+    ("lex_bench", "c_lang c_lexer sqlite_items", LEXES),
+    ("parse_bench", "c_lang c_lexer c_parser sqlite_items", PARSES),
+]
 
 
 def function(i):
@@ -90,24 +94,24 @@ def merged(size):
     return b"".join(pieces)
 
 
-def build(folder):
+def build(folder, crates, programs):
+    """Builds programs, each given by its name, the crates that it uses and its text, over a copy of the crates."""
     root = pathlib.Path(__file__).resolve().parent.parent
-    lines = [line for line in (root / "crates.txt").read_text().splitlines() if line.split(":")[0] in CRATES]
-    for crate in CRATES:
+    lines = [line for line in (root / "crates.txt").read_text().splitlines() if line.split(":")[0] in crates]
+    for crate in crates:
         copy = folder / "crates" / crate
         shutil.rmtree(copy, ignore_errors=True)
         shutil.copytree(root / "crates" / crate, copy, ignore=shutil.ignore_patterns("out"))
-    lines += ["lex_bench: c_lang c_lexer sqlite_items", "parse_bench: c_lang c_lexer c_parser sqlite_items"]
+    lines += [f"{name}: {uses}" for name, uses, _ in programs]
     (folder / "crates.txt").write_text("\n".join(lines) + "\n")
-    texts = {"lex_bench": LEXES, "parse_bench": PARSES}
-    for name, text in texts.items():
+    for name, _, text in programs:
         source = folder / "crates" / name / "src"
         source.mkdir(parents=True, exist_ok=True)
         (source / "main.rt").write_text(text)
-    for name in texts:
+    for name, _, _ in programs:
         crate = folder / "crates" / name
         subprocess.run(["rt", "run"], cwd=crate, check=True, stdout=subprocess.DEVNULL, stderr=subprocess.DEVNULL)
-    return [folder / "crates" / name / "out" / name for name in texts]
+    return [folder / "crates" / name / "out" / name for name, _, _ in programs]
 
 
 def measure(program, path):
@@ -128,7 +132,7 @@ def measure(program, path):
 
 def main():
     folder = pathlib.Path(sys.argv[1])
-    lexes, parses = build(folder)
+    lexes, parses = build(folder, CRATES, PROGRAMS)
     good, before = True, None
     for megabytes in [1, 2, 4]:
         text = merged(megabytes * 1_000_000)
@@ -148,4 +152,5 @@ def main():
     sys.exit(0 if good else 1)
 
 
-main()
+if __name__ == "__main__":
+    main()
