@@ -28,9 +28,9 @@ fn eliminate(alloc: Global, rows: &[Row]) -> Result<Elimination, Leaf>
 /// each answer means. Where a stage of the rows has a constant false row, no stage before it a wide
 /// pair, and no stage up to it more than 20,000 rows, the answer is `Found` or `NoMemory`.
 ///
-/// The point is the one of the stages, computed in 128 bits and checked against the rows. `NoMemory`
-/// also comes where a number of it is past 128 bits, and where the multipliers of an equality have
-/// products past 128 bits that may cancel. `Far` doesn't come.
+/// The point is the one of the stages, and `Far` comes where a number of it is past 128 bits.
+/// `NoMemory` also comes where the multipliers of an equality have products past 128 bits that may
+/// cancel.
 pub fn refute(alloc: Global, rows: &[Row]) -> Leaf
     requires in_form { All IsInForm rows.now }
     requires narrow { All (λ row. row_fits row ≡ true) rows.now }
@@ -38,10 +38,7 @@ pub fn refute(alloc: Global, rows: &[Row]) -> Leaf
     ensures refuted { AreRefuted rows.now → IsFoundOrNoMemory result }
 {
     match eliminate(alloc, rows) {
-        Ok(whole) => match point(alloc, rows, &whole) {
-            Ok(Some(leaf)) => leaf,
-            _ => Leaf::NoMemory,
-        },
+        Ok(whole) => point(alloc, rows, &whole),
         Err(leaf) => leaf,
     }
 }

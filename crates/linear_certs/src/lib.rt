@@ -10,6 +10,7 @@ mod elimination;
 mod entry;
 mod given;
 mod leaf;
+mod limit;
 mod mix;
 mod pair;
 mod point;
