@@ -1,14 +1,15 @@
 -- Where a number of the point doesn't fit 128 bits, the size bound is past 2^120 for sizes that occur.
-use Rattle.std.proofs.Common.{◌≡◌, ◌∙◌, ◌<◌, ◌≤◌, ℕ, ℤ, pos, List, [], ◌∷◌, ◌++◌, ap, sym, refl, arith, subst, suc, zero, length, get_or, Some, None, inl, inr}
+use Rattle.std.proofs.Common.{◌≡◌, ◌∙◌, ◌<◌, ◌≤◌, ℕ, ◌+◌, ◌^◌, ℤ, pos, List, [], ◌∷◌, ◌++◌, ap, sym, refl, arith, subst, suc, zero, length, get_or, Some, None, inl, inr}
 use Rattle.std.specs.Prelude.{unsigned_abs}
 use Rattle.std.specs.List.{All, Contains, flat_map}
 use Rattle.std.proofs.lemmas.List.Elements.{All-cons, All-nil, Contains-append_right, Contains-append_cases}
+use Rattle.std.proofs.Math.Nat.{mul-le-mul}
 use Rattle.linear_rows.specs.declared.row.Row.{Row}
 use Rattle.linear_rows.specs.Sums.{Part}
 use Rattle.linear_certs.specs.declared.entry.Entry.{Entry}
 use Rattle.linear_certs.specs.declared.elimination.Stage.{Stage}
 use Rattle.linear_certs.specs.Stages.{first_atom, smaller, stage, least_atom}
-use Rattle.linear_certs.specs.Points.{IsPartialPoint, IsFar, atoms_of}
+use Rattle.linear_certs.specs.Points.{IsPartialPoint, IsCoefficientSize, IsBoundSize, IsDenominatorSize, IsNumeratorSize, IsFar, atoms_of, size_bound}
 use Rattle.linear_certs.specs.Limits.{AreSizes, IsPast}
 use Rattle.linear_certs.specs.Answers.{value_of}
 use Rattle.linear_certs.specs.Building.{IsGood, IsStageAt}
@@ -132,3 +133,20 @@ far rows k built num nums over at part past =
 pub far-nums : (rows : List Row) (k : ℕ) (built : Stage) (nums : List ℤ) (over : ℤ) → IsStageAt rows k built → built.atom < length nums → IsPartialPoint rows (suc k) (value_of nums) over → IsPast (value_of nums) over built.entries → IsFar rows built.atom
 far-nums rows k built [] over at within part past = absurd (omega arith)
 far-nums rows k built (num ∷ nums) over at within part past = far rows k built num nums over at part past
+
+bound-le : (atoms c c' b b' d d' n n' : ℕ) → c ≤ c' → b ≤ b' → d ≤ d' → n ≤ n' → size_bound atoms c b d n ≤ size_bound atoms c' b' d' n'
+bound-le atoms c c' b b' d d' n n' hc hb hd hn = mul-le-mul (mul-le-mul (sums (mul-le-mul hb hd) (mul-le-mul (mul-le-mul (same atoms) hc) hn)) hc) hd
+  where
+    same : (a : ℕ) → a ≤ a
+    same a = omega arith
+
+    sums : {x x' y y' : ℕ} → x ≤ x' → y ≤ y' → x + y + 1 ≤ x' + y' + 1
+    sums h k = omega arith
+
+pub far-largest : (rows : List Row) (atom : ℕ) (is : IsFar rows atom) (c b d n : ℕ) → ((size : ℕ) → IsCoefficientSize rows size → size ≤ c) → ((size : ℕ) → IsBoundSize rows size → size ≤ b)
+    → ((size : ℕ) → IsDenominatorSize rows is.from size → size ≤ d) → ((size : ℕ) → IsNumeratorSize rows is.from size → size ≤ n) → 2 ^ 120 < size_bound (length (atoms_of rows)) c b d n
+far-largest rows atom is c b d n hc hb hd hn = less-le (2 ^ 120) (size_bound (length (atoms_of rows)) is.coefficient is.bound is.den is.num) (size_bound (length (atoms_of rows)) c b d n) is.large
+    (bound-le (length (atoms_of rows)) is.coefficient c is.bound b is.den d is.num n (hc is.coefficient is.coefficient_occurs) (hb is.bound is.bound_occurs) (hd is.den is.den_occurs) (hn is.num is.num_occurs))
+  where
+    less-le : (a b c : ℕ) → a < b → b ≤ c → a < c
+    less-le a b c h k = omega arith

@@ -67,9 +67,9 @@ same-parts (x ∷ xs) (y ∷ ys) h = let both = and-both (nat_eq x.0 y.0 && int_
     int_eq-true a b h = grind (arith, ints, h)
 
 same-holds : (point : ℕ → ℤ) (den : ℤ) (left right : Entry) → same_row left.row right.row ≡ true → HoldsAt point den left → HoldsAt point den right
-same-holds point den left right same holds = let both = and-both (pointwise (λ x y. nat_eq x.0 y.0 && int_eq x.1 y.1) left.row.parts right.row.parts) (int_eq left.row.bound right.row.bound) same in
-    let parts = same-parts left.row.parts right.row.parts both.0 in
-    let bound : left.row.bound ≡ right.row.bound = grind (arith, ints, both.1) in
+same-holds point den left right same holds = let both = and-both (int_eq left.row.bound right.row.bound) (pointwise (λ x y. nat_eq x.0 y.0 && int_eq x.1 y.1) left.row.parts right.row.parts) same in
+    let parts = same-parts left.row.parts right.row.parts both.1 in
+    let bound : left.row.bound ≡ right.row.bound = grind (arith, ints, both.0) in
     subst (λ b. dot point right.row.parts ≤ℤ (b *ℤ den)) bound (subst (λ p. dot point p ≤ℤ (left.row.bound *ℤ den)) parts holds)
 
 held : (point : ℕ → ℤ) (den : ℤ) (kept : List Entry) (x : Entry) → has_row kept x.row ≡ true → All (HoldsAt point den) kept → HoldsAt point den x

@@ -31,7 +31,8 @@ fn number_of(nums: &[i128], atom: u32) -> i128
 /// `sum + factor * number`, where it fits 128 bits.
 fn plus_part(sum: i128, factor: i128, number: i128) -> Option<i128>
     ensures value { IfSome result (λ new. new ≡ sum +ℤ factor *ℤ number) }
-    ensures past { IsNone result → (s p : ℕ) → unsigned_abs sum ≤ s → unsigned_abs (factor *ℤ number) ≤ p → 2 ^ 127 ≤ s + p }
+    ensures past { IsNone result → (s p : ℕ) → unsigned_abs sum ≤ s
+        → unsigned_abs (factor *ℤ number) ≤ p → 2 ^ 127 ≤ s + p }
 {
     let product = factor.checked_mul(number)?;
     sum.checked_add(product)
@@ -40,8 +41,10 @@ fn plus_part(sum: i128, factor: i128, number: i128) -> Option<i128>
 /// What the parts come to at the numbers, where it fits 128 bits.
 fn dot(parts: &[(u32, i128)], nums: &[i128]) -> Option<i128>
     ensures value { IfSome result (λ sum. sum ≡ dot (value_of nums.now) parts.now) }
-    ensures past { IsNone result → (coefficient num : ℕ) → All (λ part. unsigned_abs part.1 ≤ coefficient) parts.now
-        → ((atom : ℕ) → unsigned_abs (value_of nums.now atom) ≤ num) → 2 ^ 127 ≤ length parts.now * (coefficient * num) }
+    ensures past { IsNone result → (coefficient num : ℕ)
+        → All (λ part. unsigned_abs part.1 ≤ coefficient) parts.now
+        → ((atom : ℕ) → unsigned_abs (value_of nums.now atom) ≤ num)
+        → 2 ^ 127 ≤ length parts.now * (coefficient * num) }
 {
     let mut sum = 0;
     let mut at = 0;
@@ -71,9 +74,12 @@ fn room(entry: &Entry, den: i128, nums: &[i128]) -> Option<i128>
 /// `num / den`, or `-num / -den` where `den` is below 0.
 fn with_sign(num: i128, den: i128) -> Option<Limit>
     requires { is_zero den ≡ false }
-    ensures value { IfSome result (λ limit. (pos 0 <ℤ limit.den) × (den *ℤ limit.num ≡ num *ℤ limit.den)
-        × (unsigned_abs limit.num ≡ unsigned_abs num) × (unsigned_abs limit.den ≡ unsigned_abs den)) }
-    ensures past { IsNone result → (m n : ℕ) → unsigned_abs num ≤ m → unsigned_abs den ≤ n → 2 ^ 127 ≤ m + n }
+    ensures value { IfSome result (λ limit. (pos 0 <ℤ limit.den)
+        × (den *ℤ limit.num ≡ num *ℤ limit.den)
+        × (unsigned_abs limit.num ≡ unsigned_abs num)
+        × (unsigned_abs limit.den ≡ unsigned_abs den)) }
+    ensures past { IsNone result → (m n : ℕ) → unsigned_abs num ≤ m → unsigned_abs den ≤ n
+        → 2 ^ 127 ≤ m + n }
 {
     if den > 0 {
         return Some(Limit { num, den });
@@ -87,7 +93,8 @@ fn with_sign(num: i128, den: i128) -> Option<Limit>
 fn limit_of(entry: &Entry, atom: u32, den: i128, nums: &[i128]) -> Option<Limit>
     requires from { From atom entry.now.row.parts }
     requires has { is_zero (coefficient atom entry.now.row.parts) ≡ false }
-    ensures limit { IfSome result (IsLimitOf atom (value_of nums.now) den (entry.now ∷ []) entry.now) }
+    ensures limit { IfSome result
+        (IsLimitOf atom (value_of nums.now) den (entry.now ∷ []) entry.now) }
     ensures past { IsNone result → pos 0 <ℤ den → IsPast (value_of nums.now) den (entry.now ∷ []) }
 {
     let left = room(entry, den, nums)?;
@@ -98,7 +105,8 @@ fn limit_of(entry: &Entry, atom: u32, den: i128, nums: &[i128]) -> Option<Limit>
 fn is_above(limit: Limit, other: Limit) -> Option<bool>
     ensures yes { result ≡ Some true → (other.num *ℤ limit.den) ≤ℤ (limit.num *ℤ other.den) }
     ensures no { result ≡ Some false → (limit.num *ℤ other.den) ≤ℤ (other.num *ℤ limit.den) }
-    ensures past { IsNone result → (m n : ℕ) → unsigned_abs limit.num ≤ m → unsigned_abs other.num ≤ m
+    ensures past { IsNone result → (m n : ℕ)
+        → unsigned_abs limit.num ≤ m → unsigned_abs other.num ≤ m
         → unsigned_abs limit.den ≤ n → unsigned_abs other.den ≤ n → 2 ^ 127 ≤ m * n }
 {
     let first = limit.num.checked_mul(other.den)?;
@@ -109,7 +117,8 @@ fn is_above(limit: Limit, other: Limit) -> Option<bool>
 /// The tighter one of two lower limits, or of two upper ones.
 fn tighter(limit: Limit, other: Limit, lower: bool) -> Option<Limit>
     ensures chosen { IfSome result (IsTighter lower limit other) }
-    ensures past { IsNone result → (m n : ℕ) → unsigned_abs limit.num ≤ m → unsigned_abs other.num ≤ m
+    ensures past { IsNone result → (m n : ℕ)
+        → unsigned_abs limit.num ≤ m → unsigned_abs other.num ≤ m
         → unsigned_abs limit.den ≤ n → unsigned_abs other.den ≤ n → 2 ^ 127 ≤ m * n }
 {
     let above = is_above(limit, other)?;
@@ -139,7 +148,8 @@ fn tightened(
     requires { From atom entry.now.row.parts }
     ensures best { (seen : List Entry) → IsBest lower atom (value_of nums.now) den seen best
         → IfSome result (IsBest lower atom (value_of nums.now) den (seen ++ entry.now ∷ [])) }
-    ensures past { IsNone result → pos 0 <ℤ den → (seen : List Entry) → IsBest lower atom (value_of nums.now) den seen best
+    ensures past { IsNone result → pos 0 <ℤ den → (seen : List Entry)
+        → IsBest lower atom (value_of nums.now) den seen best
         → IsPast (value_of nums.now) den (seen ++ entry.now ∷ []) }
 {
     if !is_on_side(entry, atom, lower) {
@@ -152,8 +162,8 @@ fn tightened(
     }
 }
 
-/// The tightest limit that the lower rows set, or the upper ones. The outer `None` says that a number
-/// is past 128 bits, and the inner one that there is no such row.
+/// The tightest limit that the lower rows set, or the upper ones. The outer `None` says that a
+/// number is past 128 bits, and the inner one that there is no such row.
 fn tightest(
     entries: &[Entry],
     atom: u32,

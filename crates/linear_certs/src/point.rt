@@ -28,8 +28,10 @@ fn zeros(alloc: Global, count: usize) -> Result<Vec<i128>, AllocError>
 /// Multiplies all numbers, as long as they fit 128 bits.
 fn multiply(nums: &mut [i128], by: i128) -> Option<()>
     ensures count { length nums.new ≡ length nums.old }
-    ensures value { OnSome result ((atom : ℕ) → value_of nums.new atom ≡ value_of nums.old atom *ℤ by) }
-    ensures past { IsNone result → (m n : ℕ) → ((atom : ℕ) → unsigned_abs (value_of nums.old atom) ≤ m)
+    ensures value { OnSome result
+        ((atom : ℕ) → value_of nums.new atom ≡ value_of nums.old atom *ℤ by) }
+    ensures past { IsNone result → (m n : ℕ)
+        → ((atom : ℕ) → unsigned_abs (value_of nums.old atom) ≤ m)
         → unsigned_abs by ≤ n → 2 ^ 127 ≤ m * n }
 {
     let mut at = 0;
@@ -47,10 +49,12 @@ fn multiply(nums: &mut [i128], by: i128) -> Option<()>
 fn moved(numbers: Numbers, atom: u32, limit: Limit) -> Option<Numbers>
     requires within { atom < length numbers.nums.items }
     ensures count { IfSome result (λ new. length new.nums.items ≡ length numbers.nums.items) }
-    ensures value { IfSome result (λ new.
-        IsMoved atom limit (value_of numbers.nums.items) numbers.den (value_of new.nums.items) new.den) }
-    ensures past { IsNone result → (c d n : ℕ) → ((a : ℕ) → unsigned_abs (value_of numbers.nums.items a) ≤ n)
-        → unsigned_abs numbers.den ≤ d → unsigned_abs limit.den ≤ c → (2 ^ 127 ≤ n * c) ⊎ (2 ^ 127 ≤ d * c) }
+    ensures value { IfSome result (λ new. IsMoved atom limit
+        (value_of numbers.nums.items) numbers.den (value_of new.nums.items) new.den) }
+    ensures past { IsNone result → (c d n : ℕ)
+        → ((a : ℕ) → unsigned_abs (value_of numbers.nums.items a) ≤ n)
+        → unsigned_abs numbers.den ≤ d → unsigned_abs limit.den ≤ c
+        → (2 ^ 127 ≤ n * c) ⊎ (2 ^ 127 ≤ d * c) }
 {
     let Numbers { den, mut nums } = numbers;
     let den = den.checked_mul(limit.den)?;
@@ -70,7 +74,8 @@ fn give_value(stage: &Stage, numbers: Numbers) -> Option<Numbers>
     ensures count { IfSome result (λ new. length new.nums.items ≡ length numbers.nums.items) }
     ensures value { IfSome result (λ new. IsNextPoint stage.now.atom stage.now.entries
         (value_of numbers.nums.items) numbers.den (value_of new.nums.items) new.den) }
-    ensures past { IsNone result → IsPast (value_of numbers.nums.items) numbers.den stage.now.entries }
+    ensures past { IsNone result
+        → IsPast (value_of numbers.nums.items) numbers.den stage.now.entries }
 {
     match chosen(
         stage.entries.as_slice(),
