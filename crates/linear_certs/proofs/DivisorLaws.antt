@@ -1,7 +1,8 @@
 -- The greatest common divisor is the greatest number that divides both.
-use Rattle.std.proofs.Common.{◌≡◌, ◌<◌, ◌≤◌, ℕ, ◌%◌, sym, refl, arith, subst, Bool, true, false, suc, zero, ◌&&◌, nat_eq, if◌then◌else◌}
+use Rattle.std.proofs.Common.{◌≡◌, ◌∙◌, ◌<◌, ◌≤◌, ℕ, ◌+◌, ◌-◌, ◌*◌, ◌/◌, ◌%◌, ap, sym, refl, arith, subst, Bool, true, false, suc, zero, ◌&&◌, nat_eq, if◌then◌else◌}
 use Rattle.std.specs.Int.{◌∣◌, IsGcd}
 use Rattle.std.proofs.lemmas.Nat.Gcd.{le_of_dvd, dvd_of_mod-eq-zero, mod-eq-zero_of_dvd, le_from_IsGcd}
+use Rattle.std.proofs.Math.Nat.{div-add-mod', dvd-sub, dvd-mul_left_of_dvd, mul_assoc, add-mul}
 use Rattle.linear_certs.specs.Divisors.{common_below, gcd}
 use Rattle.linear_certs.proofs.Basics.{and-both}
 
@@ -44,3 +45,15 @@ found (suc most) p n g is up le = by_test (nat_eq (p % suc most) 0 && nat_eq (n 
 pub gcd-found : (p n g : ℕ) → 0 < p → 0 < g → IsGcd p n g → g ≡ gcd p n
 unfolding gcd
 gcd-found p n g p_up up is = sym (found p p n g is up (le_of_dvd p_up is.0))
+
+taken : (x y z w : ℕ) → x ≡ y + z → w ≡ y → x - w ≡ z
+taken x y z w e f = omega arith
+
+-- What divides two numbers times a third one divides the remainder times it.
+pub divides-rest : (m a b s : ℕ) → m ∣ (a * s) → m ∣ (b * s) → m ∣ ((a % b) * s)
+divides-rest m a b s one two = subst (λ z. m ∣ z)
+    (taken (a * s) ((a / b) * (b * s)) ((a % b) * s) ((a / b) * (b * s)) (sym (ap (λ z. z * s) (div-add-mod' a b)) ∙ split (a / b * b) (a % b) s ∙ ap (λ z. z + (a % b) * s) (mul_assoc (a / b) b s)) refl)
+    (dvd-sub m one (dvd-mul_left_of_dvd m two (a / b)))
+  where
+    split : (x y s : ℕ) → (x + y) * s ≡ x * s + y * s
+    split x y s = add-mul x y s

@@ -16,7 +16,7 @@ abbrev pub left_over : Option ℕ → ℕ
 left_over None = 0
 left_over (Some atom) = 2 ^ 32 - atom
 
-good-forms : (rows : List Row) (entries : List Entry) → All (IsGood rows) entries → All (λ e. IsInForm e.row) entries
+pub good-forms : (rows : List Row) (entries : List Entry) → All (IsGood rows) entries → All (λ e. IsInForm e.row) entries
 good-forms rows [] all = All-nil (λ e. IsInForm e.row)
 good-forms rows (e ∷ es) all = All-cons (λ e. IsInForm e.row) e es (All-head (IsGood rows) e es all).form (good-forms rows es (All-tail (IsGood rows) e es all))
 

@@ -1,5 +1,5 @@
 -- The least atom of a stage, and the stage behind it, which lacks it.
-use Rattle.std.proofs.Common.{◌≡◌, ◌∙◌, ◌<◌, ◌≤◌, ℕ, ◌+◌, ◌*◌, ◌/◌, ◌%◌, ℤ, pos, negsuc, ◌+ℤ◌, ◌*ℤ◌, List, [], ◌∷◌, ap, sym, refl, arith, subst, Bool, true, false, ◌&&◌, suc, zero, length, get_or, drop, drop-cons, add-one, Option, Some, None, if◌then◌else◌, nat_eq, map, neg_ℤ}
+use Rattle.std.proofs.Common.{◌≡◌, ◌∙◌, ◌<◌, ◌≤◌, ℕ, ◌+◌, ◌*◌, ◌/◌, ◌%◌, ℤ, pos, negsuc, ◌+ℤ◌, ◌*ℤ◌, ◌<ℤ◌, List, [], ◌∷◌, ap, sym, refl, arith, subst, Bool, true, false, ◌&&◌, suc, zero, length, get_or, drop, drop-cons, add-one, Option, Some, None, if◌then◌else◌, nat_eq, map, neg_ℤ}
 use Rattle.std.specs.Prelude.{filter, unsigned_abs}
 use Rattle.std.specs.List.{All, flat_map}
 use Rattle.std.specs.Int.{◌∣◌}
@@ -135,6 +135,23 @@ pub cancels : (u l : ℤ) → is_positive u ≡ true → is_negative l ≡ true
 cancels (pos p) (negsuc m) up down = opposite _ _ _ _ (sizes-cross p (suc m)) (pos-*ℤ-pos (suc m / gcd p (suc m)) p) (pos-*ℤ-negsuc (p / gcd p (suc m)) m)
 cancels (pos p) (pos n) up down = absurd cc
 cancels (negsuc p) l up down = absurd cc
+
+quotient-up : (g q n : ℕ) → n ≡ g * q → 0 < n → 0 < q
+quotient-up g zero n e up = absurd (omega arith)
+quotient-up g (suc q) n e up = omega arith
+
+times-up : (u l : ℤ) → is_positive u ≡ true → is_negative l ≡ true → pos 0 <ℤ pos (unsigned_abs l / gcd (unsigned_abs u) (unsigned_abs l))
+unfolding gcd
+times-up (pos p) (negsuc m) up down = up-of (suc m / common_below p p (suc m)) (quotient-up (common_below p p (suc m)) (suc m / common_below p p (suc m)) (suc m)
+    (divided-back (common_below p p (suc m)) (suc m) (common-up p p (suc m)) (common-divides p p (suc m)).1) (omega arith))
+  where
+    up-of : (n : ℕ) → 0 < n → pos 0 <ℤ pos n
+    up-of n h = omega (arith, ints)
+times-up (pos p) (pos n) up down = absurd cc
+times-up (negsuc p) l up down = absurd cc
+
+pub upper-times-up : (atom : ℕ) (upper lower : Entry) → is_upper atom upper ≡ true → is_lower atom lower ≡ true → pos 0 <ℤ upper_times atom upper lower
+upper-times-up atom upper lower above below = times-up (coefficient atom upper.row.parts) (coefficient atom lower.row.parts) above below
 
 zero-test : (z : ℤ) → z ≡ pos 0 → is_zero z ≡ true
 zero-test z e = ap is_zero e

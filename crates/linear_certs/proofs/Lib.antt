@@ -8,5 +8,14 @@ pub mod StageLaws
 pub mod LeastLaws
 pub mod EliminationLaws
 pub mod OpeningLaws
+pub mod FractionLaws
+pub mod AtomLaws
 pub mod PointLaws
+pub mod SatisfiedLaws
+pub mod SizeLaws
+pub mod QuotientLaws
+pub mod LimitLaws
+pub mod PartialLaws
+pub mod FarLaws
+pub mod CountLaws
 pub mod RefutedLaws

@@ -2,5 +2,6 @@ pub mod Divisors
 pub mod Stages
 pub mod Wide
 pub mod Points
+pub mod Limits
 pub mod Answers
 pub mod Building

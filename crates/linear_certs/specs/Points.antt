@@ -1,46 +1,42 @@
 -- The point of the stages, and how large its numbers may become.
-use Rattle.std.specs.Prelude.{◌≡◌, ◌≤◌, ◌<◌, ℕ, ◌+◌, ◌*◌, ◌^◌, ℤ, pos, ◌*ℤ◌, ◌<ℤ◌, List, [], ◌∷◌, filter, length, Some, nat_eq, if◌then◌else◌, unsigned_abs, ◌⊎◌}
+use Rattle.std.specs.Prelude.{◌≡◌, ◌≤◌, ◌<◌, ℕ, ◌+◌, ◌*◌, ◌^◌, ℤ, pos, ◌*ℤ◌, ◌≤ℤ◌, ◌<ℤ◌, List, [], ◌∷◌, Bool, true, false, length, Some, nat_eq, if◌then◌else◌, unsigned_abs, ◌⊎◌}
 use Rattle.std.specs.List.{All, Contains, list_any}
 use Rattle.std.specs.Int.{◌∣◌}
 use Rattle.linear_rows.specs.declared.row.Row.{Row}
-use Rattle.linear_rows.specs.Sums.{Part, dot, Holds}
+use Rattle.linear_rows.specs.Sums.{Part, dot}
 use Rattle.linear_certs.specs.declared.entry.Entry.{Entry}
 use Rattle.linear_certs.specs.Stages.{stage, least_atom, is_upper, is_lower}
 
--- The row is an equation at the point.
+-- The row of the entry, an inequality, is true at the point, or is an equation there.
+abbrev pub HoldsAt : (ℕ → ℤ) → ℤ → Entry → Type 0
+HoldsAt point den entry = dot point entry.row.parts ≤ℤ (entry.row.bound *ℤ den)
+
 abbrev pub IsTight : (ℕ → ℤ) → ℤ → Entry → Type 0
 IsTight point den entry = dot point entry.row.parts ≡ entry.row.bound *ℤ den
 
-abbrev pub HoldsAt : (ℕ → ℤ) → ℤ → Entry → Type 0
-HoldsAt point den entry = Holds point den entry.row
+-- The rows of one side set a bound, and the point reaches it: all of them are true, and one is an equation.
+pub record IsReached (side : Entry → Bool) (point : ℕ → ℤ) (den : ℤ) (entries : List Entry) : Type 0 where
+  pub all : All (λ entry. side entry ≡ true → HoldsAt point den entry) entries
+  pub one : (entry : Entry) × (Contains entries entry × (side entry ≡ true) × IsTight point den entry)
 
--- The atom's value is the greatest lower bound that the lower rows leave: all of them are true, and one is an equation.
-pub record IsGreatestLower (point : ℕ → ℤ) (den : ℤ) (atom : ℕ) (entries : List Entry) : Type 0 where
-  pub all : All (HoldsAt point den) (filter (is_lower atom) entries)
-  pub reached : (entry : Entry) × Contains (filter (is_lower atom) entries) entry × IsTight point den entry
+abbrev pub HasNone : (Entry → Bool) → List Entry → Type 0
+HasNone side entries = All (λ entry. side entry ≡ false) entries
 
--- There is no lower row, and the value is the least upper bound.
-pub record IsLeastUpper (point : ℕ → ℤ) (den : ℤ) (atom : ℕ) (entries : List Entry) : Type 0 where
-  pub none : filter (is_lower atom) entries ≡ []
-  pub all : All (HoldsAt point den) (filter (is_upper atom) entries)
-  pub reached : (entry : Entry) × Contains (filter (is_upper atom) entries) entry × IsTight point den entry
-
--- There is neither, and the value is 0.
-pub record IsFree (point : ℕ → ℤ) (atom : ℕ) (entries : List Entry) : Type 0 where
-  pub no_lower : filter (is_lower atom) entries ≡ []
-  pub no_upper : filter (is_upper atom) entries ≡ []
-  pub zero_is : point atom ≡ pos 0
-
--- The value of the least atom of a stage over the denominator, as the later atoms leave it.
+-- The value of an atom: the greatest lower bound, where there is none the least upper bound, and where there is none of these 0.
 abbrev pub IsValue : (ℕ → ℤ) → ℤ → ℕ → List Entry → Type 0
-IsValue point den atom entries = IsGreatestLower point den atom entries ⊎ (IsLeastUpper point den atom entries ⊎ IsFree point atom entries)
+IsValue point den atom entries = IsReached (is_lower atom) point den entries
+    ⊎ (HasNone (is_lower atom) entries × (IsReached (is_upper atom) point den entries ⊎ (HasNone (is_upper atom) entries × (point atom ≡ pos 0))))
+
+-- Nothing but 1 divides the denominator and all numerators.
+abbrev pub IsLowest : (ℕ → ℤ) → ℤ → Type 0
+IsLowest point den = (d : ℕ) → d ∣ unsigned_abs den → ((atom : ℕ) → d ∣ unsigned_abs (point atom)) → d ≡ 1
 
 -- The point after the atoms of the stages from `from` on have their values, over a common denominator in lowest terms. The other atoms are 0.
 pub record IsPartialPoint (rows : List Row) (from : ℕ) (point : ℕ → ℤ) (den : ℤ) : Type 0 where
   pub positive : pos 0 <ℤ den
   pub values : (k : ℕ) (atom : ℕ) → from ≤ k → least_atom (stage rows k) ≡ Some atom → IsValue point den atom (stage rows k)
   pub others : (atom : ℕ) → ((k : ℕ) → from ≤ k → least_atom (stage rows k) ≡ Some atom → ⊥) → point atom ≡ pos 0
-  pub lowest : (d : ℕ) → d ∣ unsigned_abs den → ((atom : ℕ) → d ∣ unsigned_abs (point atom)) → d ≡ 1
+  pub lowest : IsLowest point den
 
 -- The atoms of the rows, each once.
 abbrev pub added_atom : ℕ → List ℕ → List ℕ
@@ -58,25 +54,29 @@ atoms_of (row ∷ rows) = atoms_of_parts row.parts (atoms_of rows)
 abbrev pub size_bound : ℕ → ℕ → ℕ → ℕ → ℕ → ℕ
 size_bound atoms coefficient bound den num = (bound * den + atoms * coefficient * num + 1) * coefficient * den
 
-pub record IsLargestCoefficient (rows : List Row) (size : ℕ) : Type 0 where
-  pub all : (k : ℕ) (entry : Entry) → Contains (stage rows k) entry → All (λ part. unsigned_abs part.1 ≤ size) entry.row.parts
-  pub reached : (k : ℕ) × ((entry : Entry) × (Contains (stage rows k) entry × ((part : Part) × (Contains entry.row.parts part × (unsigned_abs part.1 ≡ size)))))
+-- The sizes that occur: of a coefficient and of a bound in the stages, and of a denominator and of a numerator of the point after any number of its atoms, up to and with that of stage `from`.
+abbrev pub IsCoefficientSize : List Row → ℕ → Type 0
+IsCoefficientSize rows size = (k : ℕ) × ((entry : Entry) × ((part : Part) × (Contains (stage rows k) entry × Contains entry.row.parts part × (unsigned_abs part.1 ≡ size))))
 
-pub record IsLargestBound (rows : List Row) (size : ℕ) : Type 0 where
-  pub all : (k : ℕ) (entry : Entry) → Contains (stage rows k) entry → unsigned_abs entry.row.bound ≤ size
-  pub reached : (k : ℕ) × ((entry : Entry) × (Contains (stage rows k) entry × (unsigned_abs entry.row.bound ≡ size)))
+abbrev pub IsBoundSize : List Row → ℕ → Type 0
+IsBoundSize rows size = (k : ℕ) × ((entry : Entry) × (Contains (stage rows k) entry × (unsigned_abs entry.row.bound ≡ size)))
 
--- The largest denominator, or the largest numerator, over the partial points from the atom of stage `from` on.
-pub record IsLargestDenominator (rows : List Row) (from size : ℕ) : Type 0 where
-  pub all : (k : ℕ) (point : ℕ → ℤ) (den : ℤ) → from ≤ k → IsPartialPoint rows k point den → unsigned_abs den ≤ size
-  pub reached : (k : ℕ) × ((from ≤ k) × ((point : ℕ → ℤ) × ((den : ℤ) × (IsPartialPoint rows k point den × (unsigned_abs den ≡ size)))))
+abbrev pub IsDenominatorSize : List Row → ℕ → ℕ → Type 0
+IsDenominatorSize rows from size = (k : ℕ) × ((point : ℕ → ℤ) × ((den : ℤ) × ((from ≤ k) × IsPartialPoint rows k point den × (unsigned_abs den ≡ size))))
 
-pub record IsLargestNumerator (rows : List Row) (from size : ℕ) : Type 0 where
-  pub all : (k : ℕ) (point : ℕ → ℤ) (den : ℤ) (atom : ℕ) → from ≤ k → IsPartialPoint rows k point den → unsigned_abs (point atom) ≤ size
-  pub reached : (k : ℕ) × ((from ≤ k) × ((point : ℕ → ℤ) × ((den : ℤ) × ((atom : ℕ) × (IsPartialPoint rows k point den × (unsigned_abs (point atom) ≡ size))))))
+abbrev pub IsNumeratorSize : List Row → ℕ → ℕ → Type 0
+IsNumeratorSize rows from size = (k : ℕ) × ((point : ℕ → ℤ) × ((den : ℤ) × ((atom : ℕ) × ((from ≤ k) × IsPartialPoint rows k point den × (unsigned_abs (point atom) ≡ size)))))
 
--- The size bound, at the stage of the atom, passes 2^120: whatever the largest sizes are.
-abbrev pub IsFar : List Row → ℕ → Type 0
-IsFar rows atom = (k : ℕ) × ((least_atom (stage rows k) ≡ Some atom) × ((largest_coefficient largest_bound largest_den largest_num : ℕ)
-    → IsLargestCoefficient rows largest_coefficient → IsLargestBound rows largest_bound → IsLargestDenominator rows k largest_den → IsLargestNumerator rows k largest_num
-    → 2 ^ 120 < size_bound (length (atoms_of rows)) largest_coefficient largest_bound largest_den largest_num))
+-- At the stage of the atom, sizes that occur make a size bound past 2^120. It grows with each of them, so that of the largest ones is past it too.
+pub record IsFar (rows : List Row) (atom : ℕ) : Type 0 where
+  pub from : ℕ
+  pub least : least_atom (stage rows from) ≡ Some atom
+  pub coefficient : ℕ
+  pub bound : ℕ
+  pub den : ℕ
+  pub num : ℕ
+  pub coefficient_occurs : IsCoefficientSize rows coefficient
+  pub bound_occurs : IsBoundSize rows bound
+  pub den_occurs : IsDenominatorSize rows from den
+  pub num_occurs : IsNumeratorSize rows from num
+  pub large : 2 ^ 120 < size_bound (length (atoms_of rows)) coefficient bound den num

@@ -54,7 +54,7 @@ opened count number [] = []
 opened count number (row ∷ rows) = halves count number row ++ opened count (suc number) rows
 
 abbrev pub same_row : Row → Row → Bool
-same_row left right = pointwise (λ x y. nat_eq x.0 y.0 && int_eq x.1 y.1) left.parts right.parts && int_eq left.bound right.bound
+same_row left right = int_eq left.bound right.bound && pointwise (λ x y. nat_eq x.0 y.0 && int_eq x.1 y.1) left.parts right.parts
 
 -- Whether one of the entries has the row.
 abbrev pub has_row : List Entry → Row → Bool

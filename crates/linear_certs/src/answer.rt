@@ -1,8 +1,9 @@
-ghost use Rattle.std.specs.Prelude.{◌≡◌, true, false, IfOk, IfErr, List};
+ghost use Rattle.std.specs.Prelude.{◌≡◌, ◌≤◌, ◌<◌, ◌^◌, ℕ, true, false, length, IfOk, IfErr, List};
 ghost use Rattle.std.specs.List.{All};
 ghost use Rattle.linear_rows.specs.declared.row.Row.{Row};
 ghost use Rattle.linear_rows.specs.Sums.{IsInForm, row_fits};
 ghost use Rattle.linear_certs.specs.declared.leaf.Leaf.{Leaf};
+ghost use Rattle.linear_certs.specs.Points.{IsFar, IsCoefficientSize, IsBoundSize, IsDenominatorSize, IsNumeratorSize, atoms_of, size_bound};
 ghost use Rattle.linear_certs.specs.Answers.{IsLeaf, AreRefuted, IsFoundOrNoMemory};
 ghost use Rattle.linear_certs.specs.Building.{AreGiven, IsEliminated};
 
@@ -24,13 +25,13 @@ fn eliminate(alloc: Global, rows: &[Row]) -> Result<Elimination, Leaf>
     }
 }
 
-/// Eliminates the atoms of rows in form, whose numbers are at most 2^100 in size. `IsLeaf` says what
-/// each answer means. Where a stage of the rows has a constant false row, no stage before it a wide
-/// pair, and no stage up to it more than 20,000 rows, the answer is `Found` or `NoMemory`.
+/// Eliminates the atoms of rows in form, whose numbers are at most 2^100 in size. `IsLeaf` says
+/// what each answer means. Where a stage of the rows has a constant false row, no stage before it a
+/// wide pair, and no stage up to it more than 20,000 rows, the answer is `Found` or `NoMemory`.
 ///
-/// The point is the one of the stages, computed in 128 bits and checked against the rows. `NoMemory`
-/// also comes where a number of it is past 128 bits, and where the multipliers of an equality have
-/// products past 128 bits that may cancel. `Far` doesn't come.
+/// The point is the one of the stages, and `Far` comes where a number of it is past 128 bits.
+/// `NoMemory` also comes where the multipliers of an equality have products past 128 bits that may
+/// cancel.
 pub fn refute(alloc: Global, rows: &[Row]) -> Leaf
     requires in_form { All IsInForm rows.now }
     requires narrow { All (λ row. row_fits row ≡ true) rows.now }
@@ -38,24 +39,34 @@ pub fn refute(alloc: Global, rows: &[Row]) -> Leaf
     ensures refuted { AreRefuted rows.now → IsFoundOrNoMemory result }
 {
     match eliminate(alloc, rows) {
-        Ok(whole) => match point(alloc, rows, &whole) {
-            Ok(Some(leaf)) => leaf,
-            _ => Leaf::NoMemory,
-        },
+        Ok(whole) => point(alloc, rows, &whole),
         Err(leaf) => leaf,
     }
 }
 
 /// Whatever answer is right for refuted rows is `Found` or `NoMemory`.
 pub fn refuted_rows()
-    ensures { (rows : List Row) (leaf : Leaf) → IsLeaf rows leaf → AreRefuted rows → IsFoundOrNoMemory leaf }
+    ensures { (rows : List Row) (leaf : Leaf) → IsLeaf rows leaf → AreRefuted rows →
+        IsFoundOrNoMemory leaf }
+{}
+
+/// Where `Far` is right, the size bound is past 2^120 for all sizes that are at least as large as
+/// the ones that occur, so for the largest ones too.
+pub fn far_sizes()
+    ensures { (rows : List Row) (atom : ℕ) (far : IsFar rows atom) (coefficient bound den num : ℕ) →
+        ((size : ℕ) → IsCoefficientSize rows size → size ≤ coefficient) →
+        ((size : ℕ) → IsBoundSize rows size → size ≤ bound) →
+        ((size : ℕ) → IsDenominatorSize rows far.from size → size ≤ den) →
+        ((size : ℕ) → IsNumeratorSize rows far.from size → size ≤ num) →
+        2 ^ 120 < size_bound (length (atoms_of rows)) coefficient bound den num }
 {}
 
 /// Whether the rows are as `refute` wants them.
 pub fn are_given(rows: &[Row]) -> bool
     ensures in_form { result ≡ true → All IsInForm rows.now }
     ensures narrow { result ≡ true → All (λ row. row_fits row ≡ true) rows.now }
-    ensures no { result ≡ false → All IsInForm rows.now → All (λ row. row_fits row ≡ true) rows.now → ⊥ }
+    ensures no { result ≡ false → All IsInForm rows.now →
+        All (λ row. row_fits row ≡ true) rows.now → ⊥ }
 {
     for row in rows {
         if !row.is_in_form() {

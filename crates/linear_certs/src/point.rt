@@ -1,233 +1,137 @@
-ghost use Rattle.std.specs.Prelude.{◌≡◌, true, IfSome, IfOk, pos, ◌<ℤ◌, ◌+ℤ◌, ◌*ℤ◌};
+ghost use Rattle.std.specs.Prelude.{◌≡◌, ◌≤◌, ◌<◌, ◌*◌, ◌^◌, ℕ, pos, ◌<ℤ◌, ◌*ℤ◌, length, unsigned_abs, replicate, IfSome, OnSome, IfOk, IsNone, ◌⊎◌};
 ghost use Rattle.std.specs.List.{All};
-ghost use Rattle.linear_rows.specs.Sums.{dot, Holds};
+ghost use Rattle.linear_rows.specs.Sums.{From};
 ghost use Rattle.linear_certs.specs.Answers.{value_of, IsLeaf};
+ghost use Rattle.linear_certs.specs.Building.{IsEliminated};
+ghost use Rattle.linear_certs.specs.Points.{IsLowest};
+ghost use Rattle.linear_certs.specs.Limits.{IsPast, IsMoved, IsNextPoint};
 
-use crate::divisor::divisor;
 use crate::elimination::{Elimination, Stage};
-use crate::entry::Entry;
 use crate::leaf::Leaf;
+use crate::limit::{Limit, chosen, reduced};
 use linear_rows::Row;
 use std::alloc::{AllocError, Global};
 
 /// Numbers over one denominator, by the numbers of their atoms.
 #[derive(Debug, Drop)]
-struct Numbers {
-    den: i128,
-    nums: Vec<i128>,
+pub(crate) struct Numbers {
+    pub den: i128,
+    pub nums: Vec<i128>,
 }
 
-/// A fraction with a denominator above 0.
-#[derive(Clone, Copy, Debug)]
-struct Limit {
-    num: i128,
-    den: i128,
-}
-
-fn number_of(nums: &[i128], atom: u32) -> i128
-    ensures { result ≡ value_of nums.now atom }
+fn zeros(alloc: Global, count: usize) -> Result<Vec<i128>, AllocError>
+    ensures { IfOk result (λ nums. nums.items ≡ replicate count (pos 0)) }
 {
-    if (atom as usize) < nums.len() {
-        nums[atom as usize]
-    } else {
-        0
-    }
+    vec![in alloc; 0i128; count]
 }
 
-/// `sum + factor * number`, where it fits 128 bits.
-fn plus_part(sum: i128, factor: i128, number: i128) -> Option<i128>
-    ensures { IfSome result (λ new. new ≡ sum +ℤ factor *ℤ number) }
+/// Multiplies all numbers, as long as they fit 128 bits.
+fn multiply(nums: &mut [i128], by: i128) -> Option<()>
+    ensures count { length nums.new ≡ length nums.old }
+    ensures value { OnSome result
+        ((atom : ℕ) → value_of nums.new atom ≡ value_of nums.old atom *ℤ by) }
+    ensures past { IsNone result → (m n : ℕ)
+        → ((atom : ℕ) → unsigned_abs (value_of nums.old atom) ≤ m)
+        → unsigned_abs by ≤ n → 2 ^ 127 ≤ m * n }
 {
-    let product = factor.checked_mul(number)?;
-    sum.checked_add(product)
-}
-
-/// What the parts come to at the numbers, where it fits 128 bits.
-fn dot(parts: &[(u32, i128)], nums: &[i128]) -> Option<i128>
-    ensures { IfSome result (λ sum. sum ≡ dot (value_of nums.now) parts.now) }
-{
-    let mut sum = 0;
     let mut at = 0;
-    while at < parts.len() {
-        let (atom, factor) = parts[at];
-        let Some(next) = plus_part(sum, factor, number_of(nums, atom)) else {
+    while at < nums.len() {
+        let Some(product) = nums[at].checked_mul(by) else {
             return None;
         };
-        sum = next;
+        nums[at] = product;
         at += 1;
     }
-    Some(sum)
-}
-
-/// Whether the row is seen to be true at the numbers over the denominator.
-fn holds(row: &Row, den: i128, nums: &[i128]) -> bool
-    ensures { result ≡ true → Holds (value_of nums.now) den row.now }
-{
-    let Some(sum) = dot(row.parts.as_slice(), nums) else {
-        return false;
-    };
-    let Some(bound) = row.bound.checked_mul(den) else {
-        return false;
-    };
-    sum == bound || sum < bound && !row.equal
-}
-
-fn all_hold(rows: &[Row], den: i128, nums: &[i128]) -> bool
-    ensures { result ≡ true → All (Holds (value_of nums.now) den) rows.now }
-{
-    for row in rows {
-        if !holds(row, den, nums) {
-            return false;
-        }
-    }
-    true
-}
-
-/// The greatest number that divides the denominator and all numerators.
-fn common_divisor(numbers: &Numbers) -> Option<i128> {
-    if numbers.den <= 0 {
-        return None;
-    }
-    let mut common = numbers.den.unsigned_abs();
-    for num in &numbers.nums {
-        if *num != 0 && common != 0 {
-            common = divisor(common, num.unsigned_abs());
-        }
-    }
-    if common > i128::MAX as u128 {
-        return None;
-    }
-    Some(common as i128)
-}
-
-/// The numbers in lowest terms.
-fn reduce(numbers: &mut Numbers) -> Option<()> {
-    let common = common_divisor(numbers)?;
-    numbers.den = numbers.den.checked_div(common)?;
-    for num in &mut numbers.nums {
-        *num = num.checked_div(common)?;
-    }
     Some(())
 }
 
-/// The same numbers over a denominator that is `by` times as large.
-fn expand(numbers: &mut Numbers, by: i128) -> Option<()> {
-    numbers.den = numbers.den.checked_mul(by)?;
-    for num in &mut numbers.nums {
-        *num = num.checked_mul(by)?;
-    }
-    Some(())
-}
-
-/// The coefficient of a stage's atom, which is the first of each row that has it.
-fn leading(entry: &Entry, atom: u32) -> i128 {
-    let parts = entry.row.parts.as_slice();
-    if parts.is_empty() || parts[0].0 != atom {
-        return 0;
-    }
-    parts[0].1
-}
-
-/// The limit that a row sets to its atom, whose numerator is still 0.
-fn limit_of(entry: &Entry, factor: i128, numbers: &Numbers) -> Option<Limit> {
-    let rest = dot(entry.row.parts.as_slice(), &numbers.nums)?;
-    let room = entry.row.bound.checked_mul(numbers.den)?.checked_sub(rest)?;
-    if factor > 0 {
-        Some(Limit {
-            num: room,
-            den: factor,
-        })
-    } else {
-        Some(Limit {
-            num: room.checked_neg()?,
-            den: factor.checked_neg()?,
-        })
-    }
-}
-
-fn is_above(limit: Limit, other: Limit) -> Option<bool> {
-    Some(limit.num.checked_mul(other.den)? > other.num.checked_mul(limit.den)?)
-}
-
-/// The tighter one of two lower limits, or of two upper ones.
-fn tighter(limit: Limit, other: Limit, lower: bool) -> Option<Limit> {
-    let above = is_above(limit, other)?;
-    Some(if above == lower { limit } else { other })
-}
-
-/// The tightest limit that the lower rows set, or the upper ones. The outer `None` says that a number
-/// is past 128 bits, and the inner one that there is no such row.
-fn tightest(stage: &Stage, numbers: &Numbers, lower: bool) -> Option<Option<Limit>> {
-    let mut best = None;
-    for entry in stage.entries.as_slice() {
-        let factor = leading(entry, stage.atom);
-        if factor != 0 && (factor < 0) == lower {
-            let limit = limit_of(entry, factor, numbers)?;
-            best = match best {
-                None => Some(limit),
-                Some(other) => Some(tighter(limit, other, lower)?),
-            };
-        }
-    }
-    Some(best)
+/// The numbers with the limit as the value of the atom.
+fn moved(numbers: Numbers, atom: u32, limit: Limit) -> Option<Numbers>
+    requires within { atom < length numbers.nums.items }
+    ensures count { IfSome result (λ new. length new.nums.items ≡ length numbers.nums.items) }
+    ensures value { IfSome result (λ new. IsMoved atom limit
+        (value_of numbers.nums.items) numbers.den (value_of new.nums.items) new.den) }
+    ensures past { IsNone result → (c d n : ℕ)
+        → ((a : ℕ) → unsigned_abs (value_of numbers.nums.items a) ≤ n)
+        → unsigned_abs numbers.den ≤ d → unsigned_abs limit.den ≤ c
+        → (2 ^ 127 ≤ n * c) ⊎ (2 ^ 127 ≤ d * c) }
+{
+    let Numbers { den, mut nums } = numbers;
+    let den = den.checked_mul(limit.den)?;
+    multiply(&mut nums, limit.den)?;
+    nums[atom as usize] = limit.num;
+    Some(Numbers { den, nums })
 }
 
 /// Gives the atom of a stage its value: the greatest lower limit, or else the least upper one, or
-/// else 0.
-fn give_value(stage: &Stage, numbers: &mut Numbers) -> Option<()> {
-    let limit = match tightest(stage, numbers, true)? {
-        Some(limit) => Some(limit),
-        None => tightest(stage, numbers, false)?,
-    };
-    let Some(limit) = limit else {
-        return Some(());
-    };
-    expand(numbers, limit.den)?;
-    let at = stage.atom as usize;
-    if at < numbers.nums.len() {
-        numbers.nums[at] = limit.num;
+/// else 0. `None` says that a number is past 128 bits.
+fn give_value(stage: &Stage, numbers: Numbers) -> Option<Numbers>
+    requires from { All (λ e. From stage.now.atom e.row.parts) stage.now.entries }
+    requires within { stage.now.atom < length numbers.nums.items }
+    requires up { pos 0 <ℤ numbers.den }
+    requires still_zero { value_of numbers.nums.items stage.now.atom ≡ pos 0 }
+    requires lowest { IsLowest (value_of numbers.nums.items) numbers.den }
+    ensures count { IfSome result (λ new. length new.nums.items ≡ length numbers.nums.items) }
+    ensures value { IfSome result (λ new. IsNextPoint stage.now.atom stage.now.entries
+        (value_of numbers.nums.items) numbers.den (value_of new.nums.items) new.den) }
+    ensures past { IsNone result
+        → IsPast (value_of numbers.nums.items) numbers.den stage.now.entries }
+{
+    match chosen(
+        stage.entries.as_slice(),
+        stage.atom,
+        numbers.den,
+        &numbers.nums,
+    ) {
+        None => None,
+        Some(None) => Some(numbers),
+        Some(Some(limit)) => moved(numbers, stage.atom, reduced(limit)),
     }
-    reduce(numbers)
 }
 
-/// The point of the stages, from the last atom to the first, where it fits 128 bits.
-fn give_values(stages: &[Stage], numbers: &mut Numbers) -> Option<()> {
-    let mut left = stages.len();
-    while left > 0 {
-        left -= 1;
-        give_value(&stages[left], numbers)?;
+/// The count, or one more than the greatest atom of the parts.
+fn count_with(parts: &[(u32, i128)], count: usize) -> usize
+    ensures up { count ≤ result }
+    ensures past { All (λ part. part.0 < result) parts.now }
+{
+    let mut most = count;
+    for part in parts {
+        most = usize::max(most, part.0 as usize + 1);
     }
-    Some(())
+    most
 }
 
 /// One more than the greatest atom of the rows.
-fn atom_count(rows: &[Row]) -> usize {
+fn atom_count(rows: &[Row]) -> usize
+    ensures { All (λ row. All (λ part. part.0 < result) row.parts) rows.now }
+{
     let mut count = 0;
     for row in rows {
-        if let Some(last) = row.parts.as_slice().last() {
-            count = usize::max(count, last.0 as usize + 1);
-        }
+        count = count_with(row.parts.as_slice(), count);
     }
     count
 }
 
-/// The point of the stages, which is checked against the rows. Where a number is past 128 bits,
-/// there is none.
-pub(crate) fn point(
-    alloc: Global,
-    rows: &[Row],
-    whole: &Elimination,
-) -> Result<Option<Leaf>, AllocError>
-    ensures { IfOk result (λ leaf. IfSome leaf (IsLeaf rows.now)) }
+/// The point of the stages, from the last atom to the first, or `Far` where a number of it is past
+/// 128 bits.
+pub(crate) fn point(alloc: Global, rows: &[Row], whole: &Elimination) -> Leaf
+    requires { IsEliminated rows.now whole.now }
+    ensures { IsLeaf rows.now result }
 {
-    let nums = vec![in alloc; 0i128; atom_count(rows)]?;
+    let Ok(nums) = zeros(alloc, atom_count(rows)) else {
+        return Leaf::NoMemory;
+    };
+    let stages = whole.stages.as_slice();
     let mut numbers = Numbers { den: 1, nums };
-    if give_values(whole.stages.as_slice(), &mut numbers).is_none() {
-        return Ok(None);
+    let mut left = stages.len();
+    while left > 0 {
+        let stage = &stages[left - 1];
+        numbers = match give_value(stage, numbers) {
+            Some(next) => next,
+            None => return Leaf::Far(stage.atom),
+        };
+        left -= 1;
     }
     let Numbers { den, nums } = numbers;
-    if den > 0 && all_hold(rows, den, &nums) {
-        return Ok(Some(Leaf::Point { den, nums }));
-    }
-    Ok(None)
+    Leaf::Point { den, nums }
 }

@@ -18,7 +18,7 @@ const MOST: u32 = 20000;
 fn same_row(left: &Row, right: &Row) -> bool
     ensures { result ≡ same_row left.now right.now }
 {
-    left.parts.as_slice() == right.parts.as_slice() && left.bound == right.bound
+    left.bound == right.bound && left.parts.as_slice() == right.parts.as_slice()
 }
 
 fn has_row(entries: &[Entry], row: &Row) -> bool

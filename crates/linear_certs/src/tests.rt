@@ -143,3 +143,36 @@ fn large_numbers_are_wide(rt: HostRuntime) -> Result<(), AllocError> {
     assert_eq!(rt; answer(rt.alloc(), text)?.as_str(), "wide 0: 7 9");
     Ok(())
 }
+
+#[test]
+fn large_points_are_far(rt: HostRuntime) -> Result<(), AllocError> {
+    let text = "= 1 1267650600228229401496703205375;= 1 0 1267650600228229401496703205373";
+    assert_eq!(rt; answer(rt.alloc(), text)?.as_str(), "far 0");
+    Ok(())
+}
+
+/// `x0 + x_i <= i` for i from 1 to 142, and `-x0 + x_i <= 1000 i` for i from 143 to 284.
+fn many_rows(alloc: Global) -> Result<Vec<Row>, AllocError> {
+    let mut rows = Vec::new(alloc);
+    for atom in 1..285u32 {
+        let upper = atom <= 142;
+        let factor: i128 = if upper { 1 } else { -1 };
+        let scale: i128 = if upper { 1 } else { 1000 };
+        rows.push(Row {
+            parts: Items::from_slice(alloc, &[(0, factor), (atom, 1)])?,
+            bound: scale.wrapping_mul(atom as i128),
+            equal: false,
+        })?;
+    }
+    Ok(rows)
+}
+
+#[test]
+fn too_many_rows_are_told(rt: HostRuntime) -> Result<(), AllocError> {
+    let rows = many_rows(rt.alloc())?;
+    assert_eq!(rt; are_given(&rows), true);
+    if are_given(&rows) {
+        assert!(rt; matches!(refute(rt.alloc(), &rows), Leaf::Rows(20000)));
+    }
+    Ok(())
+}

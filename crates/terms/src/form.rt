@@ -2,8 +2,8 @@ use crate::Sym;
 use sqlite_items::Boxed;
 
 /// A term, which is worth a whole number without bound. `Div` rounds toward zero and is 0 by 0,
-/// `Rem` is `a - (a / b) * b`, `Read` is an array's element, and `Truth` is 1 where the form is true
-/// and 0 elsewhere.
+/// `Rem` is `a - (a / b) * b`, `Read` is an array's element, and `Truth` is 1 where the form is
+/// true and 0 elsewhere.
 #[cycle(tree)]
 #[derive(Debug, Drop)]
 pub enum Term {

@@ -7,9 +7,9 @@ ghost use Rattle.terms.specs.Trees.{TermTree, ArrayTree, FormTree, FactTree, all
 ghost use Rattle.terms.specs.Truth.{Interpretation, AgreesAt, term_at, array_at, form_at, FactAt};
 ghost use Rattle.terms.specs.Replacing.{Change, Avoids, number_by, changed, replaced_term, replaced_array, replaced_form, replaced_fact};
 
-/// Where names are replaced, all at once, terms are worth, arrays hold, and forms and facts are true,
-/// what they were with each name standing for what replaced it. Of a fact, nothing that is put in may
-/// have the bound name.
+/// Where names are replaced, all at once, terms are worth, arrays hold, and forms and facts are
+/// true, what they were with each name standing for what replaced it. Of a fact, nothing that is put
+/// in may have the bound name.
 pub fn truth_where_replaced()
     ensures terms { (c : Change) (v : Interpretation) (t : TermTree) →
         term_at v (replaced_term c t) ≡ term_at (changed c v) t }
@@ -21,8 +21,8 @@ pub fn truth_where_replaced()
         FactAt v (replaced_fact c f) ↔ FactAt (changed c v) f }
 {}
 
-/// What a term is worth, what an array holds, and whether a form or a fact is true depend on its free
-/// names alone.
+/// What a term is worth, what an array holds, and whether a form or a fact is true depend on its
+/// free names alone.
 pub fn truth_by_free_names()
     ensures terms { (v w : Interpretation) (t : TermTree) → All (AgreesAt v w) (term_names t) →
         term_at v t ≡ term_at w t }

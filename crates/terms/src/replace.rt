@@ -197,8 +197,8 @@ fn replaced_in_fact(alloc: Global, fact: &Fact, by: &Replacement) -> Result<Fact
     }
 }
 
-/// The form with `by` wherever `name` stands as a number. It is true exactly where `form` is true of
-/// what `by` is worth for `name`.
+/// The form with `by` wherever `name` stands as a number. It is true exactly where `form` is true
+/// of what `by` is worth for `name`.
 pub fn subst(alloc: Global, form: &Form, name: &Sym, by: &Term) -> Result<Form, AllocError>
     ensures replaced { IfOk result (λ made.
         form_tree made ≡ replaced_form (number_by name.now (term_tree by.now)) (form_tree form.now)) }
@@ -209,8 +209,8 @@ pub fn subst(alloc: Global, form: &Form, name: &Sym, by: &Term) -> Result<Form, 
     replaced_in_form(alloc, form, &Replacement::Number(name, by))
 }
 
-/// The form with `by` wherever `name` stands as an array. It is true exactly where `form` is true of
-/// what `by` holds for `name`.
+/// The form with `by` wherever `name` stands as an array. It is true exactly where `form` is true
+/// of what `by` holds for `name`.
 pub fn subst_row(alloc: Global, form: &Form, name: &Sym, by: &ArrayTerm) -> Result<Form, AllocError>
     ensures replaced { IfOk result (λ made.
         form_tree made ≡ replaced_form (array_by name.now (array_tree by.now)) (form_tree form.now)) }
@@ -222,8 +222,8 @@ pub fn subst_row(alloc: Global, form: &Form, name: &Sym, by: &ArrayTerm) -> Resu
 }
 
 /// The fact with `by` wherever `name` stands free as a number. The bound name stays, and `by` may
-/// not have it, for which `Fact::captures` is the test. What is made is true exactly where `fact` is
-/// true of what `by` is worth for `name`.
+/// not have it, for which `Fact::captures` is the test. What is made is true exactly where `fact`
+/// is true of what `by` is worth for `name`.
 pub fn subst_fact(alloc: Global, fact: &Fact, name: &Sym, by: &Term) -> Result<Fact, AllocError>
     requires { captures (fact_tree fact.now) (term_names (term_tree by.now)) ≡ false }
     ensures replaced { IfOk result (λ made.
@@ -235,9 +235,9 @@ pub fn subst_fact(alloc: Global, fact: &Fact, name: &Sym, by: &Term) -> Result<F
     replaced_in_fact(alloc, fact, &Replacement::Number(name, by))
 }
 
-/// The fact with `by` wherever `name` stands as an array. `by` may not have the bound name, for which
-/// `Fact::captures_row` is the test. What is made is true exactly where `fact` is true of what `by`
-/// holds for `name`.
+/// The fact with `by` wherever `name` stands as an array. `by` may not have the bound name, for
+/// which `Fact::captures_row` is the test. What is made is true exactly where `fact` is true of what
+/// `by` holds for `name`.
 pub fn subst_fact_row(
     alloc: Global,
     fact: &Fact,

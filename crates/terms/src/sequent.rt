@@ -2,8 +2,8 @@ use crate::{Fact, Sym};
 use c_lang::Pos;
 use sqlite_items::Items;
 
-/// What a name stands for: an `int`, a number from 0 to the given one (a pointer to one of that many
-/// functions, or null), or an array of the given length with `int` elements.
+/// What a name stands for: an `int`, a number from 0 to the given one (a pointer to one of that
+/// many functions, or null), or an array of the given length with `int` elements.
 #[derive(Clone, Copy, Debug, PartialEq, Eq)]
 pub enum Sort {
     Whole,
