@@ -1,0 +1,6 @@
+pub mod Names
+pub mod Expressions
+pub mod Scopes
+pub mod Checks
+pub mod Calls
+pub mod Endings

@@ -1,0 +1,11 @@
+//! Which programs are typed, and what their names stand for. `check` gives a typed program with its
+//! names resolved, or the first refusal.
+#![tactic(auto)]
+
+pub mod calls;
+pub mod endings;
+pub mod expressions;
+pub mod means;
+pub mod resolving;
+pub mod scope;
+pub mod symbols;
