@@ -4,3 +4,5 @@ pub mod Scopes
 pub mod Checks
 pub mod Calls
 pub mod Endings
+pub mod Statements
+pub mod Functions

@@ -8,4 +8,6 @@ pub mod expressions;
 pub mod means;
 pub mod resolving;
 pub mod scope;
+pub mod simple;
+pub mod statements;
 pub mod symbols;
