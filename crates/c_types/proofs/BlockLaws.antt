@@ -1,5 +1,5 @@
 -- The locals of a block stand behind those that were there when it began.
-use Rattle.std.proofs.Common.{◌≡◌, ◌∙◌, List, [], ◌++◌, ◌∷◌, take, length, Bool, true, false, is_some, refl, sym, ap, append_assoc, append-nil, ℕ}
+use Rattle.std.proofs.Common.{◌≡◌, ◌∙◌, [], ◌++◌, ◌∷◌, take, length, Bool, true, false, is_some, refl, sym, ap, append_assoc, append-nil, ℕ}
 use Rattle.std.proofs.Math.Seq.{take-append_seam}
 use Rattle.c_lang.specs.Names.{Bytes}
 use Rattle.c_lang.specs.Trees.{Statements, none, more}

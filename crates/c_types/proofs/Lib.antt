@@ -1,2 +1,3 @@
 pub mod SymbolLaws
 pub mod BlockLaws
+pub mod FunctionLaws

@@ -1,5 +1,5 @@
 -- What is in scope, and which declarations of locals are refused.
-use Rattle.std.specs.Prelude.{ℕ, nat_lt, Bool, true, false, not, ◌||◌, if◌then◌else◌, length, Option, Some, None}
+use Rattle.std.specs.Prelude.{ℕ, nat_lt, Bool, false, not, if◌then◌else◌, Option, Some, None}
 use Rattle.std.specs.Option.{is_some, option_or}
 use Rattle.c_lang.specs.Names.{Bytes}
 use Rattle.c_lang.specs.declared.stmt.Kind.{Kind}

@@ -3,9 +3,12 @@
 #![tactic(auto)]
 
 pub mod calls;
+pub mod declarations;
 pub mod endings;
 pub mod expressions;
+pub mod functions;
 pub mod means;
+pub mod programs;
 pub mod resolving;
 pub mod scope;
 pub mod simple;
