@@ -7,3 +7,4 @@ pub mod Endings
 pub mod Statements
 pub mod Functions
 pub mod Programs
+pub mod Kept

@@ -14,3 +14,9 @@ pub mod scope;
 pub mod simple;
 pub mod statements;
 pub mod symbols;
+pub mod typed;
+
+pub use means::Means;
+pub use scope::{Block, Scope};
+pub use symbols::Symbols;
+pub use typed::{Typed, check};
