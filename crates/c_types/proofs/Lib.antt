@@ -1,3 +1,5 @@
 pub mod SymbolLaws
 pub mod BlockLaws
 pub mod FunctionLaws
+pub mod Combined
+pub mod ExpressionsTyped

@@ -8,3 +8,5 @@ pub mod Statements
 pub mod Functions
 pub mod Programs
 pub mod Kept
+pub mod Typing
+pub mod Types

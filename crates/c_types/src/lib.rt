@@ -20,3 +20,6 @@ pub use means::Means;
 pub use scope::{Block, Scope};
 pub use symbols::Symbols;
 pub use typed::{Typed, check};
+
+#[cfg(test)]
+mod tests;
