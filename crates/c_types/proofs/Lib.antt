@@ -3,3 +3,4 @@ pub mod BlockLaws
 pub mod FunctionLaws
 pub mod Combined
 pub mod ExpressionsTyped
+pub mod StatementsTyped
