@@ -4,3 +4,4 @@ pub mod FunctionLaws
 pub mod Combined
 pub mod ExpressionsTyped
 pub mod StatementsTyped
+pub mod ProgramsTyped

@@ -1,5 +1,5 @@
 -- A statement is typed exactly where it has no refusal.
-use Rattle.std.proofs.Common.{◌≡◌, ◌≤◌, ℕ, nat_lt, Bool, true, false, List, [], ◌∷◌, Option, Some, None, refl, ap, arith, subst, sym}
+use Rattle.std.proofs.Common.{◌≡◌, ℕ, nat_lt, Bool, true, false, List, [], ◌∷◌, Option, Some, None, refl, arith, subst}
 use Rattle.std.specs.Prelude.{if◌then◌else◌}
 use Rattle.std.specs.Option.{is_some}
 use Rattle.std.proofs.lemmas.Bool.Decides.{nat_tests}
@@ -17,7 +17,7 @@ use Rattle.c_types.specs.Names.{Names, found, stands_from, stands_before, smalle
 use Rattle.c_types.specs.Expressions.{wrong, wrong_row, own_kind}
 use Rattle.c_types.specs.Scopes.{in_scope, names_of, is_another, kind_of_dest, wrong_kind, wrong_fresh, wrong_target, wrong_dest}
 use Rattle.c_types.specs.Checks.{at_place, first}
-use Rattle.c_types.specs.Calls.{place_in, element_kind, ints, wrong_element, wrong_each, wrong_more, wrong_args, wrong_result, wrong_use, wrong_pointer, wrong_call, wrong_call_by, wrong_return}
+use Rattle.c_types.specs.Calls.{place_in, element_kind, ints, wrong_element, wrong_each, wrong_args, wrong_result, wrong_use, wrong_pointer, wrong_call, wrong_call_by, wrong_return}
 use Rattle.c_types.specs.Statements.{scope_after, block_in, entered, after_block, wrong_answer, refusal, refusals}
 use Rattle.c_types.specs.Typing.{IsRow, IsTyped, IsNarrow, IsFresh, IsCell, IsDest, TakesInt, IsUse, AreArguments, IsPointerCall, IsCall, IsCallBy, IsReturn, IsAnswer, IsTypedStatement, AreTyped}
 use Rattle.c_types.proofs.Combined.{some_none, both_none, smaller_none, first_none, none_first, at_none, none_at, test_false, not_some, fit_sound, fit_itself}

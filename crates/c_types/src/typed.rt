@@ -1,9 +1,8 @@
 //! Typed programs.
 
 ghost use Rattle.std.specs.Prelude.{◌≡◌};
-ghost use Rattle.c_types.specs.Checks.{Checked};
 ghost use Rattle.c_types.specs.Kept.{IsKept};
-ghost use Rattle.c_types.specs.Programs as spec;
+ghost use Rattle.c_types.specs.Types.{IsChecked};
 
 use crate::programs::check_program;
 use c_lang::{Fail, Program, Unit};
@@ -47,8 +46,9 @@ impl Typed {
 /// program with functions' names as values told apart from variables, the literal 0 in a pointer's
 /// place as null, and calls of pointers told apart from those of functions. Errors: the first refusal
 /// (7 to 15, 21 and 27), and want of memory.
+#[tactic(auto, using(crate::proofs::ProgramsTyped::refused))]
 pub fn check(alloc: Global, unit: Unit, program: Program) -> Result<Typed, Fail>
-    ensures { Checked result (spec.first_refusal unit program) (spec.resolved_program program) }
+    ensures { IsChecked unit program result }
 {
     let program = check_program(alloc, unit, program)?;
     Ok(Typed { program })
