@@ -1,0 +1,79 @@
+-- What holds where several tests find nothing.
+use Rattle.std.proofs.Common.{◌≡◌, ℕ, nat_lt, Bool, true, false, ◌&&◌, ◌||◌, Option, Some, None, refl, ap, arith}
+use Rattle.std.specs.Prelude.{if◌then◌else◌}
+use Rattle.std.specs.Option.{is_some}
+use Rattle.std.proofs.lemmas.Bool.Decides.{nat_tests}
+use Rattle.c_lang.specs.declared.unit.Pos.{Pos}
+use Rattle.c_lang.specs.declared.refusal.Refusal.{Refusal}
+use Rattle.c_lang.specs.declared.stmt.Kind.{Kind}
+use Rattle.c_lang.specs.declared.stmt.Kind.TheVariants.{Int, Fp}
+use Rattle.c_types.specs.Names.{smaller, same_kind, fits}
+use Rattle.c_types.specs.Checks.{at_place, first}
+
+pub some_none : {X : Type 0} (x : X) → ◌≡◌ {A = Option X} (Some x) None → ⊥
+some_none x h = cc
+
+pub both_none : (a b : Option ℕ) → smaller a b ≡ None → (a ≡ None) × (b ≡ None)
+both_none None b h = (refl, h)
+both_none (Some m) None h = absurd (some_none m h)
+both_none (Some m) (Some n) h = absurd (never (nat_lt n m) h) where
+  never : (c : Bool) → if◌then◌else◌ {A = Option ℕ} c (Some n) (Some m) ≡ None → ⊥
+  never true e = some_none n e
+  never false e = some_none m e
+
+pub smaller_none : (a b : Option ℕ) → a ≡ None → b ≡ None → smaller a b ≡ None
+smaller_none a b h k = rw (h, k) refl
+
+pub first_none : (a b : Option Refusal) → first a b ≡ None → (a ≡ None) × (b ≡ None)
+first_none None b h = (refl, h)
+first_none (Some r) b h = absurd (some_none r h)
+
+pub none_first : (a b : Option Refusal) → a ≡ None → b ≡ None → first a b ≡ None
+none_first a b h k = rw (h, k) refl
+
+pub at_none : (o : Option ℕ) (p : Pos) → at_place o p ≡ None → o ≡ None
+at_none None p h = refl
+at_none (Some n) p h = absurd (some_none _ h)
+
+pub none_at : (o : Option ℕ) (p : Pos) → o ≡ None → at_place o p ≡ None
+none_at o p h = rw h refl
+
+-- ---- tests that refuse
+
+pub test_false : (c : Bool) (n : ℕ) → if◌then◌else◌ {A = Option ℕ} c (Some n) None ≡ None → c ≡ false
+test_false true n h = absurd (some_none n h)
+test_false false n h = refl
+
+pub test_true : (c : Bool) (n : ℕ) → if◌then◌else◌ {A = Option ℕ} c None (Some n) ≡ None → c ≡ true
+test_true true n h = refl
+test_true false n h = absurd (some_none n h)
+
+pub not_some : {X : Type 0} (o : Option X) → is_some o ≡ false → o ≡ None
+not_some None h = refl
+not_some (Some x) h = absurd cc
+
+pub either_false : (a b : Bool) → (a || b) ≡ false → (a ≡ false) × (b ≡ false)
+either_false true b h = absurd cc
+either_false false b h = (refl, h)
+
+pub both_true : (a b : Bool) → (a && b) ≡ true → (a ≡ true) × (b ≡ true)
+both_true true b h = (refl, h)
+both_true false b h = absurd cc
+
+-- ---- kinds
+
+pub same_sound : (j k : Kind) → same_kind j k ≡ true → j ≡ k
+same_sound Int Int h = refl
+same_sound Int (Fp n) h = absurd cc
+same_sound (Fp m) Int h = absurd cc
+same_sound (Fp m) (Fp n) h = let e : m ≡ n = grind (arith, nat_tests, h) in ap Fp e
+
+pub same_itself : (k : Kind) → same_kind k k ≡ true
+same_itself Int = refl
+same_itself (Fp n) = grind (arith, nat_tests)
+
+pub fit_sound : (p k : Kind) → fits p k ≡ None → p ≡ k
+fit_sound p k h = same_sound p k (test_true (same_kind p k) 10 h)
+
+pub fit_itself : (p k : Kind) → p ≡ k → fits p k ≡ None
+fit_itself p k h = rw (h, same_itself k) refl

@@ -1,0 +1,8 @@
+use Rattle.std.proofs.Common.{◌∙◌, sym}
+use Rattle.c_types.proofs.SymbolLaws.{added-new}
+use Rattle.c_types.proofs.symbols.Symbols.add.Goals as goal
+
+pub returns-in-Ok : goal.returns-in-Ok
+returns-in-Ok c =
+    added-new c.self.inside.map c.args.self.now c.insert.new.self.entries c.args.name c.args.means c.self.view_is c.in-Ok.ensures.entries
+    (sym c.contains_key.ensures ∙ c.if-contains_key.false)

@@ -1,0 +1,99 @@
+-- The typing of functions: the head, then the body.
+use Rattle.std.specs.Prelude.{codes, ℕ, nat_lt, Bool, true, false, not, ◌&&◌, ◌||◌, if◌then◌else◌, List, [], ◌∷◌, length, map, Option, Some, None, bytes_eq}
+use Rattle.c_lang.specs.Names.{Bytes}
+use Rattle.c_lang.specs.Trees.{statement_of, statements}
+use Rattle.c_lang.specs.declared.refusal.Refusal.{Refusal}
+use Rattle.c_lang.specs.declared.stmt.Kind.{Kind}
+use Rattle.c_lang.specs.declared.stmt.Kind.TheVariants.{Int, Fp}
+use Rattle.c_lang.specs.declared.program.Func.{Func}
+use Rattle.c_types.specs.declared.means.Means.{Means}
+use Rattle.c_types.specs.declared.means.Means.TheVariants.{Cell, Code}
+use Rattle.c_types.specs.declared.scope.Scope.{Scope}
+use Rattle.c_types.specs.declared.scope.Block.{Block}
+use Rattle.c_types.specs.Names.{Entries, added, smaller}
+use Rattle.c_types.specs.Scopes.{wrong_fresh}
+use Rattle.c_types.specs.Checks.{at_place, first}
+use Rattle.c_types.specs.Endings.{can_end}
+use Rattle.c_types.specs.Statements.{refusal_in, resolved_block}
+
+-- ---- kinds of parameters
+
+abbrev pub kinds_of : List (Kind × Bytes) → List Kind
+kinds_of [] = []
+kinds_of (p ∷ ps) = p.0 ∷ kinds_of ps
+
+abbrev pub are_ints : List Kind → Bool
+are_ints [] = true
+are_ints (Int ∷ ks) = are_ints ks
+are_ints (Fp n ∷ ks) = false
+
+-- pointers of more than 32 parameters count as pointers of 33
+abbrev pub counted : ℕ → ℕ
+counted n = if nat_lt 32 n then 33 else n
+
+-- a function's name is a value where all parameters are ints and it gives one
+abbrev pub value_of : List Kind → Bool → Option ℕ
+value_of ks gives = if gives && are_ints ks then Some (counted (length ks)) else None
+
+abbrev pub means_of_func : Func → Means
+means_of_func f = Code (kinds_of f.params) f.gives (value_of (kinds_of f.params) f.gives) None
+
+abbrev pub is_wide : Kind → Bool
+is_wide Int = false
+is_wide (Fp n) = nat_lt 32 n
+
+abbrev pub any_wide : List Kind → Bool
+any_wide [] = false
+any_wide (k ∷ ks) = is_wide k || any_wide ks
+
+-- 27 for more than 32 parameters, of a function or of a pointer among them
+abbrev pub wrong_params_count : List Kind → Option ℕ
+wrong_params_count ks = if nat_lt 32 (length ks) || any_wide ks then Some 27 else None
+
+-- ---- the head
+
+-- the function's own names, before its parameters are declared
+abbrev pub scope_of : Entries → Option ℕ → Bool → Scope
+scope_of outside effects gives = record { outside = outside; locals = []; told = []; ahead = []; gives = gives; effects = effects }
+
+abbrev pub with_param : Scope → Kind × Bytes → Scope
+with_param scope p = record scope { locals = added scope.locals p.1 (Cell p.0) }
+
+abbrev pub with_params : Scope → List (Kind × Bytes) → Scope
+with_params scope [] = scope
+with_params scope (p ∷ ps) = with_params (with_param scope p) ps
+
+-- parameters are the first block of their function
+abbrev pub params_block : Block
+params_block = record { base = 0; mark = 0 }
+
+-- the smallest number that refuses parameters, or the one that was found before
+abbrev pub wrong_params : Scope → Option ℕ → List (Kind × Bytes) → Option ℕ
+wrong_params scope before [] = before
+wrong_params scope before (p ∷ ps) = wrong_params (with_param scope p) (smaller before (wrong_fresh params_block scope p.0 p.1)) ps
+
+abbrev pub is_main : Bytes → Bool
+is_main x = bytes_eq x (codes "main")
+
+-- 12 for an `int` function other than `main` whose body can end
+abbrev pub wrong_end : Func → Option ℕ
+wrong_end f = if f.gives && not (is_main f.name) && can_end (statements (map statement_of f.body)) then Some 12 else None
+
+-- `again` is the number that refuses its name
+abbrev pub wrong_head : Option ℕ → Scope → Func → Option ℕ
+wrong_head again scope f =
+    smaller again (smaller (wrong_params scope None f.params) (smaller (wrong_end f) (wrong_params_count (kinds_of f.params))))
+
+-- ---- the whole function
+
+abbrev pub body_scope : Entries → Option ℕ → Func → Scope
+body_scope outside effects f = with_params (scope_of outside effects f.gives) f.params
+
+abbrev pub refusal_of_func : Option ℕ → Entries → Option ℕ → Func → Option Refusal
+refusal_of_func again outside effects f =
+    first (at_place (wrong_head again (scope_of outside effects f.gives) f) f.pos)
+    (refusal_in (body_scope outside effects f) (statements (map statement_of f.body)))
+
+abbrev pub resolved_func : Entries → Option ℕ → Func → Func
+resolved_func outside effects f =
+    record f { body = resolved_block (body_scope outside effects f) (statements (map statement_of f.body)) }

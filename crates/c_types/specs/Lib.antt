@@ -1,0 +1,12 @@
+pub mod Names
+pub mod Expressions
+pub mod Scopes
+pub mod Checks
+pub mod Calls
+pub mod Endings
+pub mod Statements
+pub mod Functions
+pub mod Programs
+pub mod Kept
+pub mod Typing
+pub mod Types

@@ -1,0 +1,79 @@
+-- What is in scope, and which declarations of locals are refused.
+use Rattle.std.specs.Prelude.{ℕ, nat_lt, Bool, false, not, if◌then◌else◌, Option, Some, None}
+use Rattle.std.specs.Option.{is_some, option_or}
+use Rattle.c_lang.specs.Names.{Bytes}
+use Rattle.c_lang.specs.declared.stmt.Kind.{Kind}
+use Rattle.c_lang.specs.declared.stmt.Kind.TheVariants.{Int, Fp}
+use Rattle.c_lang.specs.declared.stmt.Dest.{Dest}
+use Rattle.c_lang.specs.declared.stmt.Dest.TheVariants.{Nowhere, Into, Fresh}
+use Rattle.c_types.specs.declared.means.Means.{Means}
+use Rattle.c_types.specs.declared.means.Means.TheVariants.{Cell, Row, Code, Refused}
+use Rattle.c_types.specs.declared.scope.Scope.{Scope}
+use Rattle.c_types.specs.declared.scope.Block.{Block}
+use Rattle.c_types.specs.Names.{Names, Entries, found, meant, added, stands_from, stands_before, smaller, same_kind}
+
+-- ---- names
+
+-- globals and functions, then parameters and locals
+abbrev pub in_scope : Scope → Bytes → Option Means
+in_scope scope x = option_or (found scope.outside x) (found scope.locals x)
+
+abbrev pub names_of : Scope → Names
+names_of scope x = meant (in_scope scope x)
+
+-- ---- declarations
+
+-- a pointer of too many parameters
+abbrev pub wrong_kind : Kind → Option ℕ
+wrong_kind Int = None
+wrong_kind (Fp n) = if nat_lt 32 n then Some 27 else None
+
+abbrev pub is_another : Option Means → Kind → Bool
+is_another (Some (Cell j)) k = not (same_kind j k)
+is_another (Some Row) k = false
+is_another (Some (Code params gives value denied)) k = false
+is_another (Some (Refused n)) k = false
+is_another None k = false
+
+-- 7 where the block has the local already; 8 where the name is in scope, so that a global, a function, a
+-- parameter or a local of an enclosing block has it; 7 where a block that has ended had it with another
+-- kind; 8 where an enclosing block declares it further on
+abbrev pub wrong_fresh : Block → Scope → Kind → Bytes → Option ℕ
+wrong_fresh block scope k x =
+    if stands_from block.base scope.locals x then Some 7
+    else if is_some (in_scope scope x) then Some 8
+    else if is_another (found scope.told x) k then Some 7
+    else if stands_before block.mark scope.ahead x then Some 8
+    else None
+
+abbrev pub with_dest : Entries → Dest → Entries
+with_dest entries Nowhere = entries
+with_dest entries (Into x) = entries
+with_dest entries (Fresh k x) = added entries x (Cell k)
+
+abbrev pub declared : Scope → Dest → Scope
+declared scope d = record scope { locals = with_dest scope.locals d; told = with_dest scope.told d }
+
+-- ---- where a value goes
+
+abbrev pub wrong_target : Means → Option ℕ
+wrong_target (Cell k) = None
+wrong_target Row = Some 10
+wrong_target (Code params gives value denied) = Some 10
+wrong_target (Refused n) = Some n
+
+abbrev pub wrong_dest : Block → Scope → Dest → Option ℕ
+wrong_dest block scope Nowhere = None
+wrong_dest block scope (Into x) = wrong_target (names_of scope x)
+wrong_dest block scope (Fresh k x) = smaller (wrong_fresh block scope k x) (wrong_kind k)
+
+abbrev pub kind_of_target : Means → Option Kind
+kind_of_target (Cell k) = Some k
+kind_of_target Row = None
+kind_of_target (Code params gives value denied) = None
+kind_of_target (Refused n) = None
+
+abbrev pub kind_of_dest : Scope → Dest → Option Kind
+kind_of_dest scope Nowhere = None
+kind_of_dest scope (Into x) = kind_of_target (names_of scope x)
+kind_of_dest scope (Fresh k x) = Some k

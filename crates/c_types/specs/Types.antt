@@ -1,0 +1,109 @@
+-- Which functions and programs are typed.
+use Rattle.std.specs.Prelude.{⊤, ◌≡◌, ◌≤◌, ◌-◌, ℕ, true, false, List, [], ◌∷◌, length, map, Option, Some, None, Result, Ok, Err}
+use Rattle.c_lang.specs.Names.{Bytes}
+use Rattle.c_lang.specs.Trees.{statement_of, statements}
+use Rattle.c_lang.specs.declared.unit.Unit.{Unit}
+use Rattle.c_lang.specs.declared.refusal.Fail.{Fail}
+use Rattle.c_lang.specs.declared.refusal.Fail.TheVariants as fail
+use Rattle.c_lang.specs.declared.stmt.Kind.{Kind}
+use Rattle.c_lang.specs.declared.stmt.Kind.TheVariants.{Fp}
+use Rattle.c_lang.specs.declared.program.Shape.{Shape}
+use Rattle.c_lang.specs.declared.program.Shape.TheVariants as shape
+use Rattle.c_lang.specs.declared.program.GlobalVar.{GlobalVar}
+use Rattle.c_lang.specs.declared.program.Proto.{Proto}
+use Rattle.c_lang.specs.declared.program.Func.{Func}
+use Rattle.c_lang.specs.declared.program.Program.{Program}
+use Rattle.c_types.specs.declared.means.Means.{Means}
+use Rattle.c_types.specs.declared.means.Means.TheVariants.{Cell, Row, Code, Refused}
+use Rattle.c_types.specs.declared.scope.Scope.{Scope}
+use Rattle.c_types.specs.Names.{Entries, found, meant}
+use Rattle.c_types.specs.Typing.{IsFunction, IsNarrow, IsFresh, AreTyped}
+use Rattle.c_types.specs.Endings.{can_end}
+use Rattle.c_types.specs.Statements.{block_in, entered}
+use Rattle.c_types.specs.Functions.{kinds_of, scope_of, with_param, params_block, body_scope, is_main}
+use Rattle.c_types.specs.Programs.{with_global, with_globals, with_func, with_funcs, outside_of, cells_of, cell_limit, has_main, first_refusal, resolved_program}
+
+-- ---- globals
+
+abbrev pub IsInitial : Entries → Shape → Type 0
+IsInitial outside (shape.Int z) = ⊤
+IsInitial outside (shape.Arr zs) = ⊤
+IsInitial outside (shape.Fp n None) = ⊤
+IsInitial outside (shape.Fp n (Some f)) = IsFunction (Fp n) (meant (found outside f))
+
+-- an array has elements, a pointer has at most 32 parameters
+abbrev pub IsHeld : Shape → Type 0
+IsHeld (shape.Int z) = ⊤
+IsHeld (shape.Arr []) = ⊥
+IsHeld (shape.Arr (z ∷ zs)) = ⊤
+IsHeld (shape.Fp n f) = IsNarrow (Fp n)
+
+-- `seen` has what is declared before, `room` is how many cells there may still be
+pub record IsTypedGlobal (outside seen : Entries) (room : ℕ) (g : GlobalVar) : Type 0 where
+  pub new : found seen g.name ≡ None
+  pub initial : IsInitial outside g.shape
+  pub held : IsHeld g.shape
+  pub cells : cells_of g.shape ≤ room
+
+abbrev pub AreTypedGlobals : Entries → Entries → ℕ → List GlobalVar → Type 0
+AreTypedGlobals outside seen room [] = ⊤
+AreTypedGlobals outside seen room (g ∷ gs) =
+    IsTypedGlobal outside seen room g × AreTypedGlobals outside (with_global seen g) (room - cells_of g.shape) gs
+
+-- ---- prototypes
+
+abbrev pub AreNarrow : List Kind → Type 0
+AreNarrow [] = ⊤
+AreNarrow (k ∷ ks) = IsNarrow k × AreNarrow ks
+
+-- a prototype has a function, and agrees with it
+abbrev pub IsMatch : Option Means → Proto → Type 0
+IsMatch (Some (Code params gives value denied)) p = (params ≡ p.params) × (gives ≡ p.gives)
+IsMatch (Some (Cell k)) p = ⊥
+IsMatch (Some Row) p = ⊥
+IsMatch (Some (Refused n)) p = ⊥
+IsMatch None p = ⊥
+
+pub record IsTypedProto (functions : Entries) (p : Proto) : Type 0 where
+  pub matches : IsMatch (found functions p.name) p
+  pub few : length p.params ≤ 32
+  pub narrow : AreNarrow p.params
+
+abbrev pub AreTypedProtos : Entries → List Proto → Type 0
+AreTypedProtos functions [] = ⊤
+AreTypedProtos functions (p ∷ ps) = IsTypedProto functions p × AreTypedProtos functions ps
+
+-- ---- functions
+
+abbrev pub AreParams : Scope → List (Kind × Bytes) → Type 0
+AreParams scope [] = ⊤
+AreParams scope (p ∷ ps) = IsFresh params_block scope p.0 p.1 × AreParams (with_param scope p) ps
+
+pub record IsTypedFunc (outside : Entries) (effects : Option ℕ) (f : Func) : Type 0 where
+  pub params : AreParams (scope_of outside effects f.gives) f.params
+  pub few : length (kinds_of f.params) ≤ 32
+  pub narrow : AreNarrow (kinds_of f.params)
+  -- only `main` may end without a value that it should give
+  pub gives : f.gives ≡ true → is_main f.name ≡ false → can_end (statements (map statement_of f.body)) ≡ false
+  pub body : AreTyped (block_in (body_scope outside effects f)) (entered (body_scope outside effects f) (statements (map statement_of f.body))) (statements (map statement_of f.body))
+
+abbrev pub AreTypedFuncs : Entries → Option ℕ → Entries → List Func → Type 0
+AreTypedFuncs outside effects seen [] = ⊤
+AreTypedFuncs outside effects seen (f ∷ fs) =
+    (found seen f.name ≡ None) × IsTypedFunc outside effects f × AreTypedFuncs outside effects (with_func seen f) fs
+
+-- ---- programs
+
+-- a program of a unit that stands by itself
+pub record Types (u : Unit) (p : Program) : Type 0 where
+  pub globals : AreTypedGlobals (outside_of p.globals p.funcs) [] (cell_limit u) p.globals
+  pub protos : AreTypedProtos (with_funcs [] p.funcs) p.protos
+  pub funcs : AreTypedFuncs (outside_of p.globals p.funcs) None (with_globals [] p.globals) p.funcs
+  pub main : has_main p.funcs ≡ true
+  pub early : p.early ≡ []
+
+-- a typed program in its resolved form, or the first refusal of one that isn't typed
+abbrev pub IsChecked : Unit → Program → Result Program Fail → Type 0
+IsChecked u p (Ok t) = Types u p × (t ≡ resolved_program p)
+IsChecked u p (Err fail.NoMemory) = ⊤
+IsChecked u p (Err (fail.Refused r)) = (Types u p → ⊥) × (first_refusal u p ≡ Some r)

@@ -1,0 +1,250 @@
+//! Which number refuses a call, an element that is set, or a `return`; and calls in their resolved form.
+
+ghost use Rattle.std.specs.Prelude.{◌≡◌, IfOk, map, []};
+ghost use Rattle.std.specs.Option.{option_copied, option_map};
+ghost use Rattle.c_lang.specs.Trees.{expression_of};
+ghost use Rattle.c_lang.specs.declared.stmt.Kind.TheVariants.{Int};
+ghost use Rattle.c_types.specs.Names.{meant};
+ghost use Rattle.c_types.specs.Scopes.{names_of};
+ghost use Rattle.c_types.specs.Expressions.{resolved};
+ghost use Rattle.c_types.specs.Calls as spec;
+
+use crate::expressions::{own_kind, wrong, wrong_row};
+use crate::means::{Means, fits, smaller};
+use crate::resolving::resolve;
+use crate::scope::{Scope, copy_dest, kind_of_dest};
+use c_lang::{Dest, Expr, Kind, Name, Pos, Stmt};
+use sqlite_items::Items;
+use std::alloc::{AllocError, Global};
+
+/// The place of a value that goes to the destination.
+pub fn place_in(scope: &Scope, dest: &Dest, e: &Expr) -> Kind
+    ensures { result ≡ spec.place_in scope.now dest.now (expression_of e.now) }
+{
+    match kind_of_dest(scope, dest) {
+        Some(kind) => kind,
+        None => own_kind(scope, e),
+    }
+}
+
+/// The place of a value that goes to an element.
+pub fn element_kind(scope: &Scope, array: Option<&Means>, e: &Expr) -> Kind
+    ensures { result ≡ spec.element_kind (names_of scope.now) (meant (option_copied array.entry)) (expression_of e.now) }
+{
+    match array {
+        Some(Means::Row) => Kind::Int,
+        _ => own_kind(scope, e),
+    }
+}
+
+/// The number that refuses `array[index] = value`.
+pub fn wrong_element(scope: &Scope, array: &Name, index: &Expr, value: &Expr) -> Option<u8>
+    ensures { result ≡ spec.wrong_element (names_of scope.now) array.now (expression_of index.now) (expression_of value.now) }
+{
+    let row = scope.look(array);
+    let kind = element_kind(scope, row, value);
+    let inside = smaller(wrong(scope, Kind::Int, index), wrong(scope, kind, value));
+    smaller(wrong_row(row), inside)
+}
+
+fn wrong_each(scope: &Scope, args: &[Expr]) -> Option<u8>
+    ensures { result ≡ spec.wrong_each (names_of scope.now) (map expression_of args.now) }
+{
+    let [e, es @ ..] = args else {
+        return None;
+    };
+    smaller(wrong(scope, own_kind(scope, e), e), wrong_each(scope, es))
+}
+
+fn wrong_more(scope: &Scope, args: &[Expr]) -> Option<u8>
+    ensures { result ≡ spec.wrong_more (names_of scope.now) (map expression_of args.now) }
+{
+    let [_e, _es @ ..] = args else {
+        return None;
+    };
+    smaller(Some(11), wrong_each(scope, args))
+}
+
+fn wrong_args(scope: &Scope, params: &[Kind], args: &[Expr]) -> Option<u8>
+    ensures { result ≡ spec.wrong_args (names_of scope.now) params.now (map expression_of args.now) }
+{
+    let [k, ks @ ..] = params else {
+        return wrong_more(scope, args);
+    };
+    let [e, es @ ..] = args else {
+        return Some(11);
+    };
+    smaller(wrong(scope, *k, e), wrong_args(scope, ks, es))
+}
+
+// The arguments of a call through a pointer.
+fn wrong_ints(scope: &Scope, count: u8, args: &[Expr]) -> Option<u8>
+    ensures { result ≡ spec.wrong_args (names_of scope.now) (spec.ints count) (map expression_of args.now) }
+{
+    if count == 0 {
+        return wrong_more(scope, args);
+    }
+    let [e, es @ ..] = args else {
+        return Some(11);
+    };
+    smaller(wrong(scope, Kind::Int, e), wrong_ints(scope, count - 1, es))
+}
+
+fn wrong_result(gives: bool, kind: Option<Kind>) -> Option<u8>
+    ensures { result ≡ spec.wrong_result gives kind }
+{
+    match (gives, kind) {
+        (true, None) => None,
+        (true, Some(kind)) => fits(kind, Kind::Int),
+        (false, None) => Some(14),
+        (false, Some(kind)) => smaller(fits(kind, Kind::Int), Some(14)),
+    }
+}
+
+/// The number that refuses the use of a call's result.
+pub fn wrong_use(scope: &Scope, gives: bool, dest: &Dest) -> Option<u8>
+    ensures { result ≡ spec.wrong_use scope.now gives dest.now }
+{
+    match dest {
+        Dest::Nowhere => None,
+        Dest::Into(_) | Dest::Fresh(_, _) => wrong_result(gives, kind_of_dest(scope, dest)),
+    }
+}
+
+fn wrong_pointer(scope: &Scope, kind: Kind, dest: &Dest, args: &[Expr]) -> Option<u8>
+    ensures { result ≡ spec.wrong_pointer scope.now kind dest.now (map expression_of args.now) }
+{
+    match kind {
+        Kind::Int => smaller(Some(10), wrong_each(scope, args)),
+        Kind::Fp(count) => {
+            let inside = smaller(wrong_use(scope, true, dest), wrong_ints(scope, count, args));
+            smaller(scope.effects, inside)
+        }
+    }
+}
+
+/// The number that refuses a call of this name.
+pub fn wrong_call(scope: &Scope, callee: Option<&Means>, dest: &Dest, args: &[Expr]) -> Option<u8>
+    ensures { result ≡ spec.wrong_call scope.now (meant (option_copied callee.entry)) dest.now (map expression_of args.now) }
+{
+    match callee {
+        Some(
+            Means::Code {
+                params,
+                gives,
+                denied,
+                ..
+            },
+        ) => {
+            let inside = wrong_args(scope, params.as_slice(), args);
+            smaller(*denied, smaller(wrong_use(scope, *gives, dest), inside))
+        }
+        Some(Means::Cell(kind)) => wrong_pointer(scope, *kind, dest, args),
+        Some(Means::Row) => smaller(Some(10), wrong_each(scope, args)),
+        Some(Means::Refused(n)) => smaller(Some(*n), wrong_each(scope, args)),
+        None => smaller(Some(9), wrong_each(scope, args)),
+    }
+}
+
+/// The number that refuses a call that is written as one through a pointer.
+pub fn wrong_call_by(
+    scope: &Scope,
+    pointer: Option<&Means>,
+    dest: &Dest,
+    args: &[Expr],
+) -> Option<u8>
+    ensures { result ≡ spec.wrong_call_by scope.now (meant (option_copied pointer.entry)) dest.now (map expression_of args.now) }
+{
+    match pointer {
+        Some(Means::Cell(kind)) => wrong_pointer(scope, *kind, dest, args),
+        Some(Means::Code { .. }) => smaller(Some(10), wrong_each(scope, args)),
+        Some(Means::Row) => smaller(Some(10), wrong_each(scope, args)),
+        Some(Means::Refused(n)) => smaller(Some(*n), wrong_each(scope, args)),
+        None => smaller(Some(9), wrong_each(scope, args)),
+    }
+}
+
+/// Arguments in their resolved form. The only error is want of memory.
+pub fn resolve_args(
+    alloc: Global,
+    scope: &Scope,
+    params: &[Kind],
+    args: &[Expr],
+) -> Result<Items<Expr>, AllocError>
+    ensures { IfOk result (λ exprs. exprs ≡ spec.resolved_args (names_of scope.now) params.now (map expression_of args.now)) }
+{
+    let mut all = Items::new(alloc);
+    let mut left = params;
+    for e in args {
+        let place = match left {
+            [k, rest @ ..] => {
+                left = rest;
+                *k
+            }
+            [] => own_kind(scope, e),
+        };
+        all.push(resolve(alloc, scope, place, e)?)?;
+    }
+    Ok(all)
+}
+
+/// A call in its resolved form. The only error is want of memory.
+pub fn resolve_call(
+    alloc: Global,
+    scope: &Scope,
+    pos: Pos,
+    dest: &Dest,
+    callee: &Name,
+    args: &[Expr],
+) -> Result<Stmt, AllocError>
+    ensures { IfOk result (λ stmt. stmt ≡ spec.resolved_call scope.now (names_of scope.now callee.now) pos dest.now callee.now (map expression_of args.now)) }
+{
+    let dest = copy_dest(alloc, dest)?;
+    let name = callee.copy(alloc)?;
+    match scope.look(callee) {
+        Some(Means::Code { params, .. }) => Ok(Stmt::Call {
+            pos,
+            dest,
+            callee: name,
+            args: resolve_args(alloc, scope, params.as_slice(), args)?,
+        }),
+        Some(Means::Cell(_)) => Ok(Stmt::CallBy {
+            pos,
+            dest,
+            pointer: name,
+            args: resolve_args(alloc, scope, &[], args)?,
+        }),
+        Some(Means::Row) | Some(Means::Refused(_)) | None => Ok(Stmt::Call {
+            pos,
+            dest,
+            callee: name,
+            args: resolve_args(alloc, scope, &[], args)?,
+        }),
+    }
+}
+
+/// The number that refuses a `return`.
+pub fn wrong_return(scope: &Scope, gives: bool, value: &Option<Expr>) -> Option<u8>
+    ensures { result ≡ spec.wrong_return (names_of scope.now) gives (option_map expression_of value.now) }
+{
+    match (gives, value) {
+        (true, None) => Some(12),
+        (false, None) => None,
+        (true, Some(e)) => wrong(scope, Kind::Int, e),
+        (false, Some(e)) => smaller(Some(14), wrong(scope, own_kind(scope, e), e)),
+    }
+}
+
+/// The value of a `return` in its resolved form. The only error is want of memory.
+pub fn resolve_value(
+    alloc: Global,
+    scope: &Scope,
+    value: &Option<Expr>,
+) -> Result<Option<Expr>, AllocError>
+    ensures { IfOk result (λ expr. expr ≡ option_map (resolved (names_of scope.now) Int) (option_map expression_of value.now)) }
+{
+    match value {
+        None => Ok(None),
+        Some(e) => Ok(Some(resolve(alloc, scope, Kind::Int, e)?)),
+    }
+}

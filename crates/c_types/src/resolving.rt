@@ -1,0 +1,66 @@
+//! Expressions with function names and null pointers told apart. Each function's only error is want
+//! of memory.
+
+ghost use Rattle.std.specs.Prelude.{◌≡◌, IfOk};
+ghost use Rattle.std.specs.Option.{option_copied};
+ghost use Rattle.c_lang.specs.Trees.{expression_of};
+ghost use Rattle.c_types.specs.Names.{meant};
+ghost use Rattle.c_types.specs.Scopes.{names_of};
+ghost use Rattle.c_types.specs.Expressions as spec;
+
+use crate::expressions::place_of;
+use crate::means::Means;
+use crate::scope::Scope;
+use c_lang::{Expr, Kind, Name};
+use sqlite_items::Boxed;
+use std::alloc::{AllocError, Global};
+
+fn resolve_name(alloc: Global, name: &Name, means: Option<&Means>) -> Result<Expr, AllocError>
+    ensures { IfOk result (λ expr. expr ≡ spec.resolved_name name.now (meant (option_copied means.entry))) }
+{
+    let name = name.copy(alloc)?;
+    match means {
+        Some(Means::Code { .. }) => Ok(Expr::FunRef(name)),
+        _ => Ok(Expr::Var(name)),
+    }
+}
+
+fn resolve_literal(place: Kind, number: i32) -> Expr
+    ensures { result ≡ spec.resolved_literal place number }
+{
+    match place {
+        Kind::Int => Expr::Lit(number),
+        Kind::Fp(_) => Expr::Null,
+    }
+}
+
+/// The resolved form of an expression at its place.
+pub fn resolve(alloc: Global, scope: &Scope, place: Kind, e: &Expr) -> Result<Expr, AllocError>
+    ensures { IfOk result (λ expr. expr ≡ spec.resolved (names_of scope.now) place (expression_of e.now)) }
+{
+    match e {
+        Expr::Lit(z) => Ok(resolve_literal(place, *z)),
+        Expr::Var(x) => resolve_name(alloc, x, scope.look(x)),
+        Expr::Elem(a, i) => {
+            let a = a.copy(alloc)?;
+            let i = resolve(alloc, scope, Kind::Int, i.get())?;
+            Ok(Expr::Elem(a, Boxed::new(alloc, i)?))
+        }
+        Expr::FunRef(f) => Ok(Expr::FunRef(f.copy(alloc)?)),
+        Expr::Null => Ok(Expr::Null),
+        Expr::Neg(a) => {
+            let a = resolve(alloc, scope, Kind::Int, a.get())?;
+            Ok(Expr::Neg(Boxed::new(alloc, a)?))
+        }
+        Expr::Not(a) => {
+            let a = resolve(alloc, scope, Kind::Int, a.get())?;
+            Ok(Expr::Not(Boxed::new(alloc, a)?))
+        }
+        Expr::Bin(op, a, b) => {
+            let both = place_of(scope, *op, a.get(), b.get());
+            let a = resolve(alloc, scope, both, a.get())?;
+            let b = resolve(alloc, scope, both, b.get())?;
+            Ok(Expr::Bin(*op, Boxed::new(alloc, a)?, Boxed::new(alloc, b)?))
+        }
+    }
+}

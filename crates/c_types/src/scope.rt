@@ -1,0 +1,154 @@
+//! What is in scope, and which declarations of locals are refused.
+
+ghost use Rattle.std.specs.Prelude.{◌≡◌, OnOk, IfOk};
+ghost use Rattle.std.specs.Option.{option_copied};
+ghost use Rattle.c_types.specs.Names.{meant};
+ghost use Rattle.c_types.specs.Scopes as spec;
+
+use crate::means::{Means, same_kind, smaller};
+use crate::symbols::Symbols;
+use c_lang::{Dest, Kind, Name};
+use std::alloc::{AllocError, Global};
+
+/// The names that a statement of a function sees, and the rules that it is under.
+#[derive(Drop)]
+pub struct Scope {
+    /// What is visible in the whole unit.
+    pub outside: Symbols,
+    /// The parameters, then the locals that are visible.
+    pub locals: Symbols,
+    /// All locals that the function's text has declared so far.
+    pub told: Symbols,
+    /// The locals of all open blocks, also those that are declared further on.
+    pub ahead: Symbols,
+    /// Whether the function gives a value.
+    pub gives: bool,
+    /// The number that refuses inputs, outputs, points and calls through pointers.
+    pub effects: Option<u8>,
+}
+
+/// Where the names of a block begin in `locals`, and in `ahead`.
+#[derive(Clone, Copy, Debug, PartialEq, Eq)]
+pub struct Block {
+    pub base: usize,
+    pub mark: usize,
+}
+
+impl Scope {
+    /// What the name stands for.
+    pub fn look(&self, name: &Name) -> Option<&Means>
+        ensures { option_copied result ≡ spec.in_scope self.now name.now }
+    {
+        match self.outside.find(name) {
+            Some(means) => Some(means),
+            None => self.locals.find(name),
+        }
+    }
+}
+
+/// 27 for a pointer of too many parameters.
+pub fn wrong_kind(kind: Kind) -> Option<u8>
+    ensures { result ≡ spec.wrong_kind kind }
+{
+    match kind {
+        Kind::Int => None,
+        Kind::Fp(n) => { if n > 32 { Some(27) } else { None } }
+    }
+}
+
+fn is_another(told: Option<&Means>, kind: Kind) -> bool
+    ensures { result ≡ spec.is_another (option_copied told.entry) kind }
+{
+    match told {
+        Some(Means::Cell(before)) => !same_kind(*before, kind),
+        Some(Means::Row) | Some(Means::Code { .. }) | Some(Means::Refused(_)) | None => false,
+    }
+}
+
+/// The number that refuses a name that is declared in the block.
+pub fn wrong_fresh(scope: &Scope, block: Block, kind: Kind, name: &Name) -> Option<u8>
+    ensures { result ≡ spec.wrong_fresh block scope.now kind name.now }
+{
+    if scope.locals.stands_from(block.base, name) {
+        Some(7)
+    } else if scope.look(name).is_some() {
+        Some(8)
+    } else if is_another(scope.told.find(name), kind) {
+        Some(7)
+    } else if scope.ahead.stands_before(block.mark, name) {
+        Some(8)
+    } else {
+        None
+    }
+}
+
+fn wrong_target(means: Option<&Means>) -> Option<u8>
+    ensures { result ≡ spec.wrong_target (meant (option_copied means.entry)) }
+{
+    match means {
+        Some(Means::Cell(_)) => None,
+        Some(Means::Refused(n)) => Some(*n),
+        None => Some(9),
+        _ => Some(10),
+    }
+}
+
+/// The number that refuses a destination.
+pub fn wrong_dest(scope: &Scope, block: Block, dest: &Dest) -> Option<u8>
+    ensures { result ≡ spec.wrong_dest block scope.now dest.now }
+{
+    match dest {
+        Dest::Nowhere => None,
+        Dest::Into(x) => wrong_target(scope.look(x)),
+        Dest::Fresh(kind, x) => smaller(wrong_fresh(scope, block, *kind, x), wrong_kind(*kind)),
+    }
+}
+
+fn kind_of_target(means: Option<&Means>) -> Option<Kind>
+    ensures { result ≡ spec.kind_of_target (meant (option_copied means.entry)) }
+{
+    match means {
+        Some(Means::Cell(kind)) => Some(*kind),
+        _ => None,
+    }
+}
+
+/// The kind of what goes to this destination, where it has one.
+pub fn kind_of_dest(scope: &Scope, dest: &Dest) -> Option<Kind>
+    ensures { result ≡ spec.kind_of_dest scope.now dest.now }
+{
+    match dest {
+        Dest::Nowhere => None,
+        Dest::Into(x) => kind_of_target(scope.look(x)),
+        Dest::Fresh(kind, _) => Some(*kind),
+    }
+}
+
+/// Adds the local that the destination declares. The only error is want of memory.
+pub fn add_dest(alloc: Global, symbols: &mut Symbols, dest: &Dest) -> Result<(), AllocError>
+    ensures { OnOk result (symbols.new ≡ spec.with_dest symbols.old dest.now) }
+{
+    match dest {
+        Dest::Fresh(kind, x) => symbols.add(x.copy(alloc)?, Means::Cell(*kind)),
+        Dest::Nowhere | Dest::Into(_) => Ok(()),
+    }
+}
+
+/// Declares the local that the destination declares. The only error is want of memory.
+pub fn declare(alloc: Global, scope: &mut Scope, dest: &Dest) -> Result<(), AllocError>
+    ensures { OnOk result (scope.new ≡ spec.declared scope.old dest.now) }
+{
+    add_dest(alloc, &mut scope.locals, dest)?;
+    add_dest(alloc, &mut scope.told, dest)
+}
+
+/// A copy of a destination. The only error is want of memory.
+pub fn copy_dest(alloc: Global, dest: &Dest) -> Result<Dest, AllocError>
+    ensures { IfOk result (λ copy. copy ≡ dest.now) }
+{
+    match dest {
+        Dest::Nowhere => Ok(Dest::Nowhere),
+        Dest::Into(x) => Ok(Dest::Into(x.copy(alloc)?)),
+        Dest::Fresh(kind, x) => Ok(Dest::Fresh(*kind, x.copy(alloc)?)),
+    }
+}

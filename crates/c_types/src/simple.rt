@@ -1,0 +1,182 @@
+//! Statements without bodies. After an error the scope is that of some statement of the function.
+
+ghost use Rattle.std.specs.Prelude.{◌≡◌, OnOk, map};
+ghost use Rattle.std.specs.Option.{option_map};
+ghost use Rattle.c_lang.specs.Trees as tree;
+ghost use Rattle.c_lang.specs.declared.stmt.Kind.TheVariants.{Int};
+ghost use Rattle.c_types.specs.Calls as calls;
+ghost use Rattle.c_types.specs.Checks.{Checked, Stops, at_place};
+ghost use Rattle.c_types.specs.Expressions as expression;
+ghost use Rattle.c_types.specs.Names as names;
+ghost use Rattle.c_types.specs.Scopes.{declared, names_of};
+ghost use Rattle.c_types.specs.Statements as spec;
+
+use crate::calls::{
+    element_kind, place_in, resolve_args, resolve_call, resolve_value, wrong_call, wrong_call_by,
+    wrong_element, wrong_return, wrong_use,
+};
+use crate::expressions::wrong;
+use crate::means::smaller;
+use crate::resolving::resolve;
+use crate::scope::{Block, Scope, copy_dest, declare, wrong_dest};
+use c_lang::{Dest, Expr, Fail, Kind, Name, Pos, Refusal, Stmt};
+use std::alloc::Global;
+
+/// The refusal by this number, where there is one.
+pub fn stop(number: Option<u8>, pos: Pos) -> Result<(), Fail>
+    ensures { Stops result (at_place number pos) }
+{
+    match number {
+        None => Ok(()),
+        Some(number) => Err(Fail::Refused(Refusal {
+            number,
+            pos,
+            name: None,
+        })),
+    }
+}
+
+/// An int that is looked at by itself.
+pub fn int(alloc: Global, scope: &Scope, pos: Pos, e: &Expr) -> Result<Expr, Fail>
+    ensures { Checked result (at_place (expression.wrong (names_of scope.now) Int (tree.expression_of e.now)) pos) (expression.resolved (names_of scope.now) Int (tree.expression_of e.now)) }
+{
+    stop(wrong(scope, Kind::Int, e), pos)?;
+    Ok(resolve(alloc, scope, Kind::Int, e)?)
+}
+
+/// A value that goes to a name.
+pub fn set(
+    alloc: Global,
+    scope: &mut Scope,
+    block: Block,
+    pos: Pos,
+    dest: &Dest,
+    value: &Expr,
+) -> Result<Stmt, Fail>
+    ensures checked { Checked result (spec.refusal block scope.old (tree.set pos dest.now (tree.expression_of value.now))) (spec.resolved_statement scope.old (tree.set pos dest.now (tree.expression_of value.now))) }
+    ensures scope { OnOk result (scope.new ≡ spec.scope_after scope.old (tree.set pos dest.now (tree.expression_of value.now))) }
+{
+    let place = place_in(scope, dest, value);
+    let number = smaller(wrong_dest(scope, block, dest), wrong(scope, place, value));
+    stop(number, pos)?;
+    let value = resolve(alloc, scope, place, value)?;
+    declare(alloc, scope, dest)?;
+    let dest = copy_dest(alloc, dest)?;
+    Ok(Stmt::Set { pos, dest, value })
+}
+
+/// A value that goes to an element.
+pub fn set_element(
+    alloc: Global,
+    scope: &Scope,
+    pos: Pos,
+    array: &Name,
+    index: &Expr,
+    value: &Expr,
+) -> Result<Stmt, Fail>
+    ensures { Checked result (at_place (calls.wrong_element (names_of scope.now) array.now (tree.expression_of index.now) (tree.expression_of value.now)) pos) (spec.resolved_statement scope.now (tree.set_element pos array.now (tree.expression_of index.now) (tree.expression_of value.now))) }
+{
+    stop(wrong_element(scope, array, index, value), pos)?;
+    let kind = element_kind(scope, scope.look(array), value);
+    let index = resolve(alloc, scope, Kind::Int, index)?;
+    let value = resolve(alloc, scope, kind, value)?;
+    let array = array.copy(alloc)?;
+    Ok(Stmt::SetElem {
+        pos,
+        array,
+        index,
+        value,
+    })
+}
+
+/// A call by name, which may be that of a pointer.
+pub fn call(
+    alloc: Global,
+    scope: &mut Scope,
+    block: Block,
+    pos: Pos,
+    dest: &Dest,
+    callee: &Name,
+    args: &[Expr],
+) -> Result<Stmt, Fail>
+    ensures checked { Checked result (spec.refusal block scope.old (tree.call pos dest.now callee.now (map tree.expression_of args.now))) (spec.resolved_statement scope.old (tree.call pos dest.now callee.now (map tree.expression_of args.now))) }
+    ensures scope { OnOk result (scope.new ≡ spec.scope_after scope.old (tree.call pos dest.now callee.now (map tree.expression_of args.now))) }
+{
+    let inside = wrong_call(scope, scope.look(callee), dest, args);
+    stop(smaller(wrong_dest(scope, block, dest), inside), pos)?;
+    let stmt = resolve_call(alloc, scope, pos, dest, callee, args)?;
+    declare(alloc, scope, dest)?;
+    Ok(stmt)
+}
+
+/// A call that is written as one through a pointer.
+pub fn call_by(
+    alloc: Global,
+    scope: &mut Scope,
+    block: Block,
+    pos: Pos,
+    dest: &Dest,
+    pointer: &Name,
+    args: &[Expr],
+) -> Result<Stmt, Fail>
+    ensures checked { Checked result (spec.refusal block scope.old (tree.call_by pos dest.now pointer.now (map tree.expression_of args.now))) (spec.resolved_statement scope.old (tree.call_by pos dest.now pointer.now (map tree.expression_of args.now))) }
+    ensures scope { OnOk result (scope.new ≡ spec.scope_after scope.old (tree.call_by pos dest.now pointer.now (map tree.expression_of args.now))) }
+{
+    let inside = wrong_call_by(scope, scope.look(pointer), dest, args);
+    stop(smaller(wrong_dest(scope, block, dest), inside), pos)?;
+    let args = resolve_args(alloc, scope, &[], args)?;
+    let pointer = pointer.copy(alloc)?;
+    declare(alloc, scope, dest)?;
+    let dest = copy_dest(alloc, dest)?;
+    Ok(Stmt::CallBy {
+        pos,
+        dest,
+        pointer,
+        args,
+    })
+}
+
+fn wrong_answer(scope: &Scope, block: Block, dest: &Dest) -> Option<u8>
+    ensures { result ≡ spec.wrong_answer block scope.now dest.now }
+{
+    let inside = smaller(scope.effects, wrong_use(scope, true, dest));
+    smaller(wrong_dest(scope, block, dest), inside)
+}
+
+/// The destination of an input or a choice.
+pub fn answer(
+    alloc: Global,
+    scope: &mut Scope,
+    block: Block,
+    pos: Pos,
+    dest: &Dest,
+) -> Result<Dest, Fail>
+    ensures checked { Checked result (at_place (spec.wrong_answer block scope.old dest.now) pos) dest.now }
+    ensures scope { OnOk result (scope.new ≡ declared scope.old dest.now) }
+{
+    stop(wrong_answer(scope, block, dest), pos)?;
+    declare(alloc, scope, dest)?;
+    Ok(copy_dest(alloc, dest)?)
+}
+
+/// An output.
+pub fn output(alloc: Global, scope: &Scope, pos: Pos, e: &Expr) -> Result<Expr, Fail>
+    ensures { Checked result (at_place (names.smaller scope.now.effects (expression.wrong (names_of scope.now) Int (tree.expression_of e.now))) pos) (expression.resolved (names_of scope.now) Int (tree.expression_of e.now)) }
+{
+    stop(smaller(scope.effects, wrong(scope, Kind::Int, e)), pos)?;
+    Ok(resolve(alloc, scope, Kind::Int, e)?)
+}
+
+/// A `return`.
+pub fn return_with(
+    alloc: Global,
+    scope: &Scope,
+    pos: Pos,
+    value: &Option<Expr>,
+) -> Result<Stmt, Fail>
+    ensures { Checked result (at_place (calls.wrong_return (names_of scope.now) scope.now.gives (option_map tree.expression_of value.now)) pos) (spec.resolved_statement scope.now (tree.return_with pos (option_map tree.expression_of value.now))) }
+{
+    stop(wrong_return(scope, scope.gives, value), pos)?;
+    let value = resolve_value(alloc, scope, value)?;
+    Ok(Stmt::Return { pos, value })
+}

@@ -1,0 +1,164 @@
+//! Statements and blocks. After an error the scope is that of some statement of the function.
+
+ghost use Rattle.std.specs.Prelude.{◌≡◌, OnOk, map};
+ghost use Rattle.c_lang.specs.Trees.{statement_of, statements};
+ghost use Rattle.c_types.specs.Checks.{Checked};
+ghost use Rattle.c_types.specs.Scopes.{with_dest};
+ghost use Rattle.c_types.specs.Statements as spec;
+
+use crate::scope::{Block, Scope, add_dest};
+use crate::simple::{answer, call, call_by, int, output, return_with, set, set_element, stop};
+use crate::symbols::Symbols;
+use c_lang::{Fail, Stmt};
+use sqlite_items::Items;
+use std::alloc::{AllocError, Global};
+
+// The local that the statement declares.
+fn add_local(alloc: Global, symbols: &mut Symbols, s: &Stmt) -> Result<(), AllocError>
+    ensures { OnOk result (symbols.new ≡ with_dest symbols.old (spec.dest_of (statement_of s.now))) }
+{
+    match s {
+        Stmt::Set { dest, .. }
+        | Stmt::Call { dest, .. }
+        | Stmt::CallBy { dest, .. }
+        | Stmt::Input { dest, .. }
+        | Stmt::Choice { dest, .. } => add_dest(alloc, symbols, dest),
+        Stmt::Skip { .. }
+        | Stmt::SetElem { .. }
+        | Stmt::If { .. }
+        | Stmt::While { .. }
+        | Stmt::Break { .. }
+        | Stmt::Return { .. }
+        | Stmt::Assert { .. }
+        | Stmt::Output { .. }
+        | Stmt::Point { .. }
+        | Stmt::Force { .. }
+        | Stmt::Pick { .. } => Ok(()),
+    }
+}
+
+fn add_locals(alloc: Global, symbols: &mut Symbols, stmts: &[Stmt]) -> Result<(), AllocError>
+    ensures { OnOk result (symbols.new ≡ spec.with_locals symbols.old (statements (map statement_of stmts.now))) }
+{
+    for s in stmts {
+        add_local(alloc, symbols, s)?;
+    }
+    Ok(())
+}
+
+/// A statement of a block in its resolved form, or its first refusal. What it declares is then in
+/// scope.
+#[cycle(statement)]
+pub fn statement(alloc: Global, scope: &mut Scope, block: Block, s: &Stmt) -> Result<Stmt, Fail>
+    ensures checked { Checked result (spec.refusal block scope.old (statement_of s.now)) (spec.resolved_statement scope.old (statement_of s.now)) }
+    ensures scope { OnOk result (scope.new ≡ spec.scope_after scope.old (statement_of s.now)) }
+{
+    match s {
+        Stmt::Skip { pos } => Ok(Stmt::Skip { pos: *pos }),
+        Stmt::Set { pos, dest, value } => set(alloc, scope, block, *pos, dest, value),
+        Stmt::SetElem {
+            pos,
+            array,
+            index,
+            value,
+        } => set_element(alloc, scope, *pos, array, index, value),
+        Stmt::Call {
+            pos,
+            dest,
+            callee,
+            args,
+        } => call(alloc, scope, block, *pos, dest, callee, args.as_slice()),
+        Stmt::CallBy {
+            pos,
+            dest,
+            pointer,
+            args,
+        } => call_by(alloc, scope, block, *pos, dest, pointer, args.as_slice()),
+        Stmt::If { pos, cond, yes, no } => {
+            let cond = int(alloc, scope, *pos, cond)?;
+            let yes = body(alloc, scope, yes.as_slice())?;
+            let no = body(alloc, scope, no.as_slice())?;
+            Ok(Stmt::If {
+                pos: *pos,
+                cond,
+                yes,
+                no,
+            })
+        }
+        Stmt::While { pos, cond, body: s } => {
+            let cond = int(alloc, scope, *pos, cond)?;
+            let body = body(alloc, scope, s.as_slice())?;
+            Ok(Stmt::While {
+                pos: *pos,
+                cond,
+                body,
+            })
+        }
+        Stmt::Break { pos } => Ok(Stmt::Break { pos: *pos }),
+        Stmt::Return { pos, value } => return_with(alloc, scope, *pos, value),
+        Stmt::Assert { pos, cond } => Ok(Stmt::Assert {
+            pos: *pos,
+            cond: int(alloc, scope, *pos, cond)?,
+        }),
+        Stmt::Input { pos, dest } => Ok(Stmt::Input {
+            pos: *pos,
+            dest: answer(alloc, scope, block, *pos, dest)?,
+        }),
+        Stmt::Output { pos, value } => Ok(Stmt::Output {
+            pos: *pos,
+            value: output(alloc, scope, *pos, value)?,
+        }),
+        Stmt::Point { pos, k } => {
+            stop(scope.effects, *pos)?;
+            Ok(Stmt::Point { pos: *pos, k: *k })
+        }
+        Stmt::Choice { pos, dest, k } => Ok(Stmt::Choice {
+            pos: *pos,
+            dest: answer(alloc, scope, block, *pos, dest)?,
+            k: *k,
+        }),
+        Stmt::Force { pos } => {
+            stop(Some(21), *pos)?;
+            Ok(Stmt::Force { pos: *pos })
+        }
+        Stmt::Pick { pos, .. } => {
+            stop(Some(21), *pos)?;
+            Ok(Stmt::Skip { pos: *pos })
+        }
+    }
+}
+
+#[cycle(statement)]
+fn sequence(
+    alloc: Global,
+    scope: &mut Scope,
+    block: Block,
+    stmts: &[Stmt],
+) -> Result<Items<Stmt>, Fail>
+    ensures checked { Checked result (spec.refusals block scope.old (statements (map statement_of stmts.now))) (spec.resolved_list scope.old (statements (map statement_of stmts.now))) }
+    ensures scope { OnOk result (scope.new ≡ spec.scope_after_all scope.old (statements (map statement_of stmts.now))) }
+{
+    let mut all = Items::new(alloc);
+    for s in stmts {
+        all.push(statement(alloc, scope, block, s)?)?;
+    }
+    Ok(all)
+}
+
+/// The statements of a block that begins here, in their resolved form, or their first refusal. The
+/// block's locals leave the scope at its end.
+#[cycle(statement)]
+pub fn body(alloc: Global, scope: &mut Scope, stmts: &[Stmt]) -> Result<Items<Stmt>, Fail>
+    ensures checked { Checked result (spec.refusal_in scope.old (statements (map statement_of stmts.now))) (spec.resolved_block scope.old (statements (map statement_of stmts.now))) }
+    ensures scope { OnOk result (scope.new ≡ spec.after_block scope.old (statements (map statement_of stmts.now))) }
+{
+    let block = Block {
+        base: scope.locals.len(),
+        mark: scope.ahead.len(),
+    };
+    add_locals(alloc, &mut scope.ahead, stmts)?;
+    let all = sequence(alloc, scope, block, stmts)?;
+    scope.locals.truncate(block.base);
+    scope.ahead.truncate(block.mark);
+    Ok(all)
+}

@@ -1,0 +1,91 @@
+//! A symbol table. A look-up takes the same time however many names there are.
+
+ghost use Rattle.std.specs.Prelude.{◌≡◌, OnOk, take, length, []};
+ghost use Rattle.std.specs.Option.{option_copied};
+ghost use Rattle.c_types.specs.Names as spec;
+
+use crate::means::Means;
+use c_lang::Name;
+use indexmap::IndexMap;
+use std::alloc::{AllocError, Global};
+use std::marker::Model;
+
+/// Names with what they stand for, in the order of their declarations.
+#[derive(Drop)]
+pub struct Symbols {
+    map: IndexMap<Name, Means>,
+}
+
+impl Model for Symbols {
+    ghost use Rattle.std.specs.Prelude.{ℕ, List};
+    ghost use Rattle.c_types.specs.declared.means.Means.{Means};
+
+    ghost Value = { List (List ℕ × Means) };
+
+    ghost view = { λ s. s.map.entries };
+}
+
+impl Symbols {
+    /// A table without names. It takes no memory.
+    pub fn new(alloc: Global) -> Symbols
+        ensures { result ≡ [] }
+    {
+        Symbols {
+            map: IndexMap::new(alloc),
+        }
+    }
+
+    /// What the name stands for.
+    pub fn find(&self, name: &Name) -> Option<&Means>
+        ensures { option_copied result ≡ spec.found self.now name.now }
+    {
+        self.map.get(name)
+    }
+
+    /// How many names there are.
+    pub fn len(&self) -> usize
+        ensures { result ≡ length self.now }
+    {
+        self.map.len()
+    }
+
+    /// Whether the name stands at this place, or behind it.
+    pub fn stands_from(&self, base: usize, name: &Name) -> bool
+        ensures { result ≡ spec.stands_from base self.now name.now }
+    {
+        match self.map.get_index_of(name) {
+            Some(place) => base <= place,
+            None => false,
+        }
+    }
+
+    /// Whether the name stands before this place.
+    pub fn stands_before(&self, mark: usize, name: &Name) -> bool
+        ensures { result ≡ spec.stands_before mark self.now name.now }
+    {
+        match self.map.get_index_of(name) {
+            Some(place) => place < mark,
+            None => false,
+        }
+    }
+
+    /// Adds a name, unless it is there already.
+    pub fn add(&mut self, name: Name, means: Means) -> Result<(), AllocError>
+        ensures { OnOk result (self.new ≡ spec.added self.old name means) }
+    {
+        if self.map.contains_key(&name) {
+            return Ok(());
+        }
+        match self.map.insert(name, means) {
+            Ok(_) => Ok(()),
+            Err(_) => Err(AllocError),
+        }
+    }
+
+    /// Takes away the names from this place on.
+    pub fn truncate(&mut self, base: usize)
+        ensures { self.new ≡ take base self.old }
+    {
+        self.map.truncate(base);
+    }
+}
