@@ -1,6 +1,10 @@
 //! Runs a program without updates, statement by statement.
 #![tactic(auto)]
 
+pub mod answers;
 pub mod eval;
+pub mod frame;
 pub mod names;
 pub mod value;
+
+pub use answers::Answers;
