@@ -1,2 +1,4 @@
 pub mod Levels
 pub mod FrameLaws
+pub mod TableLaws
+pub mod FunctionLaws

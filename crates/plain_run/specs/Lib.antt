@@ -1,4 +1,5 @@
 pub mod Values
 pub mod Names
+pub mod Tables
 pub mod Scopes
 pub mod Frames

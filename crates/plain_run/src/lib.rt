@@ -4,6 +4,7 @@
 pub mod answers;
 pub mod eval;
 pub mod frame;
+pub mod functions;
 pub mod names;
 pub mod value;
 

@@ -1,0 +1,65 @@
+-- What is found in a table, as it changes.
+use Rattle.std.proofs.Common.{◌≡◌, Bool, true, false, cond, if◌then◌else◌, List, [], ◌∷◌, Option, Some, None, refl, sym, ap, ◌∙◌}
+use Rattle.std.specs.Borrow.{Bor}
+use Rattle.std.specs.Str.{bytes_eq}
+use Rattle.std.proofs.lemmas.Slice.Eq.{bytes_eq-Decides}
+use Rattle.std.proofs.lemmas.Bool.{false_from_ne_true}
+use Rattle.indexmap.specs.IndexMap.{insert_entry}
+use Rattle.c_lang.specs.Names.{Bytes}
+use Rattle.c_lang.specs.Steps.{updated}
+use Rattle.plain_run.specs.Names.{found}
+
+abbrev pub same_name : Bor Bytes → Bor Bytes → Bool
+same_name k n = bytes_eq k.now n.now
+
+from_true : (x y : Bytes) → bytes_eq x y ≡ true → x ≡ y
+from_true x y = (bytes_eq-Decides x y).0
+
+-- a name is told from another whichever stands first
+apart : (x y z : Bytes) → bytes_eq x y ≡ false → y ≡ z → bytes_eq x z ≡ false
+apart x y z differ same = sym (ap (λ n. bytes_eq x n) same) ∙ differ
+
+symmetric : (x y : Bytes) → bytes_eq x y ≡ bytes_eq y x
+symmetric x y = by (bytes_eq x y) (bytes_eq y x) refl refl
+  where
+    by : (b c : Bool) → bytes_eq x y ≡ b → bytes_eq y x ≡ c → b ≡ c
+    by true true p q = refl
+    by true false p q = sym ((bytes_eq-Decides y x).1 (sym (from_true x y p))) ∙ q
+    by false true p q = sym p ∙ (bytes_eq-Decides x y).1 (sym (from_true y x q))
+    by false false p q = refl
+
+module _ {X : Type 0} where
+  -- at an entry whose name is k
+  at_name : (c d : Bool) (v old : X) (rest : Option X) → d ≡ c → cond d (Some v) rest ≡ (if c then Some v else cond d (Some old) rest)
+  at_name true true v old rest e = refl
+  at_name true false v old rest e = cc
+  at_name false true v old rest e = cc
+  at_name false false v old rest e = refl
+
+  -- at an entry with another name
+  at_other : (c d : Bool) (v old : X) (after rest : Option X) → (d ≡ true → c ≡ false) → after ≡ (if c then Some v else rest)
+      → cond d (Some old) after ≡ (if c then Some v else cond d (Some old) rest)
+  at_other c true v old after rest other e = sym (ap (λ b. if b then Some v else Some old) (other refl))
+  at_other c false v old after rest other e = e
+
+  pub found-insert : (entries : List (Bor Bytes × X)) (k : Bor Bytes) (v : X) (x : Bytes)
+      → found (insert_entry same_name entries k v) x ≡ updated (found entries) k.now (Some v) x
+  found-insert [] k v x = ap (λ b. cond b (Some v) None) (symmetric x k.now)
+  found-insert (e ∷ entries) k v x = by (bytes_eq k.now e.0.now) refl (found-insert entries k v x)
+    where
+      by : (b : Bool) → bytes_eq k.now e.0.now ≡ b → found (insert_entry same_name entries k v) x ≡ updated (found entries) k.now (Some v) x
+          → found (if b then (e.0, v) ∷ entries else e ∷ insert_entry same_name entries k v) x ≡ updated (found (e ∷ entries)) k.now (Some v) x
+      by true p rest = at_name (bytes_eq k.now x) (bytes_eq x e.0.now) v e.1 (found entries x) (symmetric x e.0.now ∙ sym (ap (λ n. bytes_eq n x) (from_true k.now e.0.now p)))
+      by false p rest =
+          at_other (bytes_eq k.now x) (bytes_eq x e.0.now) v e.1 (found (insert_entry same_name entries k v) x) (found entries x)
+          (λ q. apart k.now e.0.now x p (sym (from_true x e.0.now q))) rest
+
+module _ {X Y : Type 0} (see : Option X → Y) where
+  at_test : (b : Bool) (v : X) (rest : Option X) → see (if b then Some v else rest) ≡ (if b then see (Some v) else see rest)
+  at_test true v rest = refl
+  at_test false v rest = refl
+
+  -- what a table stands for, as it changes
+  pub seen-insert : (entries : List (Bor Bytes × X)) (k : Bor Bytes) (v : X) (x : Bytes)
+      → see (found (insert_entry same_name entries k v) x) ≡ updated (λ y. see (found entries y)) k.now (see (Some v)) x
+  seen-insert entries k v x = ap see (found-insert entries k v x) ∙ at_test (bytes_eq k.now x) v (found entries x)
