@@ -1,4 +1,3 @@
 pub mod Levels
 pub mod FrameLaws
 pub mod TableLaws
-pub mod FunctionLaws

@@ -1,5 +1,5 @@
 -- What is found in a table, as it changes.
-use Rattle.std.proofs.Common.{◌≡◌, Bool, true, false, cond, if◌then◌else◌, List, [], ◌∷◌, Option, Some, None, refl, sym, ap, ◌∙◌}
+use Rattle.std.proofs.Common.{◌≡◌, ℕ, suc, ◌-◌, ◌<◌, ◌≤◌, Bool, true, false, cond, if◌then◌else◌, List, [], ◌∷◌, length, drop, get_or, Option, Some, None, refl, sym, ap, ap₂, ◌∙◌, arith, drop-cons}
 use Rattle.std.specs.Borrow.{Bor}
 use Rattle.std.specs.Str.{bytes_eq}
 use Rattle.std.proofs.lemmas.Slice.Eq.{bytes_eq-Decides}
@@ -54,12 +54,33 @@ module _ {X : Type 0} where
           at_other (bytes_eq k.now x) (bytes_eq x e.0.now) v e.1 (found (insert_entry same_name entries k v) x) (found entries x)
           (λ q. apart k.now e.0.now x p (sym (from_true x e.0.now q))) rest
 
-module _ {X Y : Type 0} (see : Option X → Y) where
-  at_test : (b : Bool) (v : X) (rest : Option X) → see (if b then Some v else rest) ≡ (if b then see (Some v) else see rest)
-  at_test true v rest = refl
-  at_test false v rest = refl
+at_test : {X Y : Type 0} (see : Option X → Y) (b : Bool) (v : X) (rest : Option X) → see (if b then Some v else rest) ≡ (if b then see (Some v) else see rest)
+at_test see true v rest = refl
+at_test see false v rest = refl
 
-  -- what a table stands for, as it changes
-  pub seen-insert : (entries : List (Bor Bytes × X)) (k : Bor Bytes) (v : X) (x : Bytes)
-      → see (found (insert_entry same_name entries k v) x) ≡ updated (λ y. see (found entries y)) k.now (see (Some v)) x
-  seen-insert entries k v x = ap see (found-insert entries k v x) ∙ at_test (bytes_eq k.now x) v (found entries x)
+-- what a table stands for, as it changes
+pub seen-insert : {X Y : Type 0} (see : Option X → Y) (entries : List (Bor Bytes × X)) (k : Bor Bytes) (v : X) (x : Bytes)
+    → see (found (insert_entry same_name entries k v) x) ≡ updated (λ y. see (found entries y)) k.now (see (Some v)) x
+seen-insert see entries k v x = ap see (found-insert entries k v x) ∙ at_test see (bytes_eq k.now x) v (found entries x)
+
+-- ---- a table that is filled from the last declaration to the first, so that the first of one name counts
+
+-- the declarations from an index on, one further to the front
+pub drop-front : {D : Type 0} (all : List D) (n : ℕ) (d : D) → 0 < n → n ≤ length all → d ≡ get_or all (n - 1) d → drop (n - 1) all ≡ d ∷ drop n all
+drop-front all n d low high is =
+    let within : n - 1 < length all = omega arith in
+    let next : suc (n - 1) ≡ n = omega arith in
+    drop-cons all (n - 1) d within ∙ ap₂ (λ y k. y ∷ drop k all) (sym is) next
+
+module _ {D X Y : Type 0} (name_of : D → Bytes) (named : List D → Bytes → Option D) (see : Option X → Y) (start : Option D → Y) where
+  abbrev pub IsFilled : List (Bor Bytes × X) → List D → Type 0
+  IsFilled entries all = (x : Bytes) → see (found entries x) ≡ start (named all x)
+
+  pub IsFilled-more : (old new : List (Bor Bytes × X)) (k : Bor Bytes) (v : X) (d : D) (all : List D)
+      → ((x : Bytes) → named (d ∷ all) x ≡ (if bytes_eq (name_of d) x then Some d else named all x))
+      → new ≡ insert_entry same_name old k v → k.now ≡ name_of d → see (Some v) ≡ start (Some d) → IsFilled old all → IsFilled new (d ∷ all)
+  IsFilled-more old new k v d all first is name value filled x =
+      ap (λ entries. see (found entries x)) is ∙ seen-insert see old k v x
+      ∙ ap₂ (λ n y. if bytes_eq n x then y else see (found old x)) name value
+      ∙ ap (λ y. if bytes_eq (name_of d) x then start (Some d) else y) (filled x)
+      ∙ sym (ap start (first x) ∙ at_test start (bytes_eq (name_of d) x) d (named all x))

@@ -5,6 +5,7 @@ pub mod answers;
 pub mod eval;
 pub mod frame;
 pub mod functions;
+pub mod initial;
 pub mod names;
 pub mod value;
 
