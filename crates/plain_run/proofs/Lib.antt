@@ -1,3 +1,4 @@
 pub mod Levels
 pub mod FrameLaws
 pub mod TableLaws
+pub mod CallLaws

@@ -3,3 +3,4 @@ pub mod Names
 pub mod Tables
 pub mod Scopes
 pub mod Frames
+pub mod Calls

@@ -2,6 +2,7 @@
 #![tactic(auto)]
 
 pub mod answers;
+pub mod call;
 pub mod eval;
 pub mod frame;
 pub mod functions;
