@@ -2,3 +2,4 @@ pub mod Levels
 pub mod FrameLaws
 pub mod TableLaws
 pub mod CallLaws
+pub mod StoreLaws

@@ -4,3 +4,4 @@ pub mod Tables
 pub mod Scopes
 pub mod Frames
 pub mod Calls
+pub mod Stored
