@@ -1,15 +1,17 @@
 //! The value of an expression.
 
-ghost use Rattle.std.specs.Prelude.{◌≡◌};
+ghost use Rattle.std.specs.Prelude.{◌≡◌, IfOk};
 ghost use Rattle.std.specs.Str.{bytes_eq};
 ghost use Rattle.c_lang.specs.Trees.{expression_of};
 ghost use Rattle.c_lang.specs.Evaluation.{ev, element_at};
+ghost use Rattle.plain_run.specs.Calls.{seen_arguments, values_in};
 ghost use Rattle.plain_run.specs.Scopes.{look_of};
 ghost use Rattle.plain_run.specs.Values.{seen_value, seen_answer};
 
 use crate::names::{Rows, Values};
 use crate::value::{Answer, Value, applied, negated, truth};
 use c_lang::{Expr, Name, Op, Trap};
+use std::alloc::{AllocError, Global};
 
 /// What names stand for: a local where the frame on top has the name, else a global.
 #[derive(Clone, Copy)]
@@ -93,5 +95,24 @@ impl<'p> Scope<'_, 'p> {
                 applied(*op, left, right)
             }
         }
+    }
+
+    /// The values of arguments from left to right, or the first trap. The only error is want of
+    /// memory.
+    pub fn arguments(
+        self,
+        alloc: Global,
+        exprs: &'p [Expr],
+    ) -> Result<Result<Vec<Value<'p>>, Trap>, AllocError>
+        ensures { IfOk result (λ values. seen_arguments values ≡ values_in (look_of self.entry) exprs.entry.now) }
+    {
+        let mut values = Vec::with_capacity(alloc, exprs.len())?;
+        for expr in exprs {
+            match self.eval(expr) {
+                Ok(value) => values.push(value)?,
+                Err(trap) => return Ok(Err(trap)),
+            }
+        }
+        Ok(Ok(values))
     }
 }
