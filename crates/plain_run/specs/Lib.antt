@@ -5,3 +5,5 @@ pub mod Scopes
 pub mod Frames
 pub mod Calls
 pub mod Stored
+pub mod Actions
+pub mod SeenActions

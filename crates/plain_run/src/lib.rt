@@ -1,6 +1,7 @@
 //! Runs a program without updates, statement by statement.
 #![tactic(auto)]
 
+pub mod action;
 pub mod answers;
 pub mod call;
 pub mod eval;
