@@ -3,3 +3,4 @@ pub mod FrameLaws
 pub mod TableLaws
 pub mod CallLaws
 pub mod StoreLaws
+pub mod ActionLaws
