@@ -6,7 +6,7 @@ pub mod answers;
 pub mod call;
 pub mod eval;
 pub mod frame;
-pub mod functions;
+pub mod indexed;
 pub mod initial;
 pub mod names;
 pub mod value;
