@@ -7,3 +7,5 @@ pub mod Calls
 pub mod Stored
 pub mod Actions
 pub mod SeenActions
+pub mod Runs
+pub mod Machines

@@ -8,7 +8,11 @@ pub mod eval;
 pub mod frame;
 pub mod indexed;
 pub mod initial;
+pub mod machine;
 pub mod names;
+pub mod step;
 pub mod value;
 
 pub use answers::Answers;
+pub use machine::Machine;
+pub use step::{RunError, Step};
