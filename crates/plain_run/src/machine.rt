@@ -69,4 +69,81 @@ impl<'p> Machine<'p> {
         self.over = true;
         Step::Shown(Event::Fault(trap, pos))
     }
+    fn enter_loop(&mut self, body: &'p [Stmt], mark: &'p Stmt) -> Result<Step, RunError>
+        requires { self.old.over ≡ false }
+        ensures done { (a : List ℤ) → HasDone self.old (spec.Loop body.entry.now mark.entry.now) a result self.new a }
+        ensures program { program_of self.new ≡ program_of self.old }
+    {
+        enter_loop(&mut self.top.rest, body, mark)?;
+        Ok(Step::Quiet)
+    }
+
+    fn leave_loop(&mut self) -> Step
+        requires { self.old.over ≡ false }
+        ensures done { (a : List ℤ) → HasDone self.old spec.Leave a (Ok result) self.new a }
+        ensures program { program_of self.new ≡ program_of self.old }
+    {
+        drop_first(&mut self.top.rest);
+        leave_loop(&mut self.top.rest);
+        Step::Quiet
+    }
+
+    fn output(&mut self, number: i32) -> Step
+        requires { self.old.over ≡ false }
+        ensures done { (a : List ℤ) → HasDone self.old (spec.Output number) a (Ok result) self.new a }
+        ensures program { program_of self.new ≡ program_of self.old }
+    {
+        drop_first(&mut self.top.rest);
+        Step::Shown(Event::Output(number))
+    }
+
+    fn store(&mut self, dest: &'p Dest, value: Value<'p>) -> Result<Step, RunError>
+        requires { self.old.over ≡ false }
+        ensures done { (a : List ℤ) → HasDone self.old (spec.Store_value dest.entry.now (seen_value value.entry)) a result self.new a }
+        ensures program { program_of self.new ≡ program_of self.old }
+    {
+        store(&mut self.top.locals, &mut self.values, dest, value)?;
+        drop_first(&mut self.top.rest);
+        Ok(Step::Quiet)
+    }
+
+    fn input(&mut self, dest: &'p Dest, answers: &mut Answers) -> Result<Step, RunError>
+        requires { self.old.over ≡ false }
+        ensures done { HasDone self.old (spec.Input dest.entry.now) answers.old result self.new answers.new }
+        ensures program { program_of self.new ≡ program_of self.old }
+    {
+        let Some(number) = answers.first() else {
+            return Ok(Step::Waiting);
+        };
+        store(
+            &mut self.top.locals,
+            &mut self.values,
+            dest,
+            Value::Num(number),
+        )?;
+        drop_first(&mut self.top.rest);
+        answers.skip();
+        Ok(Step::Shown(Event::Input(number)))
+    }
+
+    fn choice(
+        &mut self,
+        dest: &'p Dest,
+        k: u32,
+        answers: &mut Answers,
+    ) -> Result<Step, RunError>
+        requires { self.old.over ≡ false }
+        ensures done { HasDone self.old (spec.Choice dest.entry.now k) answers.old result self.new answers.new }
+        ensures program { program_of self.new ≡ program_of self.old }
+    {
+        let Some(number) = answers.first() else {
+            return Ok(Step::Waiting);
+        };
+        let chosen = number != 0;
+        let value = Value::Num(if chosen { 1 } else { 0 });
+        store(&mut self.top.locals, &mut self.values, dest, value)?;
+        drop_first(&mut self.top.rest);
+        answers.skip();
+        Ok(Step::Shown(Event::Choice(k, chosen)))
+    }
 }
