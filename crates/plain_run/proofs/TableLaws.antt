@@ -1,6 +1,7 @@
 -- What is found in a table, as it changes.
 use Rattle.std.proofs.Common.{◌≡◌, ℕ, suc, ◌-◌, ◌<◌, ◌≤◌, Bool, true, false, cond, if◌then◌else◌, List, [], ◌∷◌, length, drop, get_or, Option, Some, None, refl, sym, ap, ap₂, ◌∙◌, arith, drop-cons}
 use Rattle.std.specs.Borrow.{Bor}
+use Rattle.std.specs.Map.{set_value}
 use Rattle.std.specs.Str.{bytes_eq}
 use Rattle.std.proofs.lemmas.Slice.Eq.{bytes_eq-Decides}
 use Rattle.std.proofs.lemmas.Bool.{false_from_ne_true}
@@ -12,7 +13,7 @@ use Rattle.plain_run.specs.Names.{found}
 abbrev pub same_name : Bor Bytes → Bor Bytes → Bool
 same_name k n = bytes_eq k.now n.now
 
-from_true : (x y : Bytes) → bytes_eq x y ≡ true → x ≡ y
+pub from_true : (x y : Bytes) → bytes_eq x y ≡ true → x ≡ y
 from_true x y = (bytes_eq-Decides x y).0
 
 -- a name is told from another whichever stands first
@@ -54,7 +55,22 @@ module _ {X : Type 0} where
           at_other (bytes_eq k.now x) (bytes_eq x e.0.now) v e.1 (found (insert_entry same_name entries k v) x) (found entries x)
           (λ q. apart k.now e.0.now x p (sym (from_true x e.0.now q))) rest
 
-at_test : {X Y : Type 0} (see : Option X → Y) (b : Bool) (v : X) (rest : Option X) → see (if b then Some v else rest) ≡ (if b then see (Some v) else see rest)
+  -- a value that is written where the name is
+  pub found-set : (entries : List (Bor Bytes × X)) (k : Bytes) (w old : X) (x : Bytes) → found entries k ≡ Some old
+      → found (set_value (λ n. bytes_eq k n.now) entries w) x ≡ updated (found entries) k (Some w) x
+  found-set [] k w old x there = cc
+  found-set (e ∷ entries) k w old x there = by (bytes_eq k e.0.now) refl (found-set entries k w old x)
+    where
+      by : (b : Bool) → bytes_eq k e.0.now ≡ b
+          → (found entries k ≡ Some old → found (set_value (λ n. bytes_eq k n.now) entries w) x ≡ updated (found entries) k (Some w) x)
+          → found (cond b ((e.0, w) ∷ entries) (e ∷ set_value (λ n. bytes_eq k n.now) entries w)) x ≡ updated (found (e ∷ entries)) k (Some w) x
+      by true p rest = at_name (bytes_eq k x) (bytes_eq x e.0.now) w e.1 (found entries x) (symmetric x e.0.now ∙ sym (ap (λ n. bytes_eq n x) (from_true k e.0.now p)))
+      by false p rest =
+          at_other (bytes_eq k x) (bytes_eq x e.0.now) w e.1 (found (set_value (λ n. bytes_eq k n.now) entries w) x) (found entries x)
+          (λ q. apart k e.0.now x p (sym (from_true x e.0.now q)))
+          (rest (sym (ap (λ b. cond b (Some e.1) (found entries k)) p) ∙ there))
+
+pub at_test : {X Y : Type 0} (see : Option X → Y) (b : Bool) (v : X) (rest : Option X) → see (if b then Some v else rest) ≡ (if b then see (Some v) else see rest)
 at_test see true v rest = refl
 at_test see false v rest = refl
 

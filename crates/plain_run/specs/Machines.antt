@@ -1,8 +1,13 @@
 -- What a machine stands for.
 use Rattle.std.specs.Prelude.{◌≡◌, ℤ, Bool, true, false, List, Result}
-use Rattle.c_lang.specs.PlainRun.{Store, PlainFrame, PlainConfig}
-use Rattle.c_lang.specs.Steps.{Live, Over}
+use Rattle.c_lang.specs.Evaluation.{Look}
+use Rattle.c_lang.specs.Moves.{Move}
+use Rattle.c_lang.specs.Names.{Bytes}
+use Rattle.c_lang.specs.PlainRun.{Store, PlainFrame, PlainConfig, plain_access}
+use Rattle.c_lang.specs.Steps.{Live, Over, look, entered}
+use Rattle.c_lang.specs.Values.{Value}
 use Rattle.c_lang.specs.declared.program.Program.{Program}
+use Rattle.c_lang.specs.declared.stmt.Dest.{Dest}
 use Rattle.plain_run.specs.declared.machine.Machine.{Machine}
 use Rattle.plain_run.specs.declared.frame.Frame.{Frame}
 use Rattle.plain_run.specs.declared.step.Step.{Step}
@@ -34,3 +39,11 @@ behind_statement f = frame_with f.locals.entries (behind_first (seen_items f.res
 abbrev pub HasDone : Machine → Action → List ℤ → Result Step RunError → Machine → List ℤ → Type 0
 HasDone old action a result new b =
     Makes_or_fails (done (program_of old) (store_of old) (behind_statement old.top) (seen_frames old.below) action) (config_of old) a result (config_of new) b
+
+-- what names stand for
+abbrev pub look_in : Machine → Look Bytes
+look_in m = look (plain_access (program_of m)) (store_of m) (behind_statement m.top)
+
+-- the move of a call
+abbrev pub entering : Machine → Bytes → List (Value Bytes) → Dest → Move PlainConfig
+entering m f vs d = entered (plain_access (program_of m)) (store_of m) (behind_statement m.top) (seen_frames m.below) f vs d

@@ -1,7 +1,8 @@
 //! Tables of names.
 
-ghost use Rattle.std.specs.Prelude.{◌≡◌, OnOk, OnErr};
-ghost use Rattle.plain_run.specs.Stored.{Stores};
+ghost use Rattle.std.specs.Prelude.{◌≡◌, false, if◌then◌else◌, OnOk, OnErr};
+ghost use Rattle.c_lang.specs.Steps.{row_with};
+ghost use Rattle.plain_run.specs.Stored.{Stores, StoresElement};
 
 use crate::value::Value;
 use c_lang::{Dest, Name};
@@ -40,4 +41,35 @@ pub(crate) fn store<'p>(
         }
     }
     Ok(())
+}
+
+// Writes an element where the index is within the bounds, and says whether it is.
+fn set_element(row: &mut Vec<i32>, at: i32, element: i32) -> bool
+    ensures within { row_with row.old.items at element ≡ (if result then Some row.new.items else None) }
+    ensures outside { result ≡ false → row.new.items ≡ row.old.items }
+{
+    if at < 0 {
+        return false;
+    }
+    let at = at as usize;
+    if at >= row.len() {
+        return false;
+    }
+    row[at] = element;
+    true
+}
+
+// The same for an array's row.
+pub(crate) fn store_element<'p>(
+    rows: &mut Rows<'p>,
+    array: &'p Name,
+    at: i32,
+    element: i32,
+) -> bool
+    ensures { StoresElement rows.old.entries array.entry.now at element result rows.new.entries }
+{
+    match rows.get_mut(&array) {
+        Some(row) => set_element(row, at, element),
+        None => false,
+    }
 }
