@@ -6,3 +6,4 @@ pub mod StoreLaws
 pub mod RowLaws
 pub mod ActionLaws
 pub mod MachineLaws
+pub mod StepLaws

@@ -1,9 +1,10 @@
 -- A machine's configuration, as its parts change.
-use Rattle.std.proofs.Common.{◌≡◌, ℤ, ◌⊎◌, inl, inr, Bool, true, false, List, [], ◌∷◌, ◌++◌, Vec, Global, Ok, Err, refl, sym, ap, ap₂, ◌∙◌}
+use Rattle.std.proofs.Common.{◌≡◌, ℤ, ◌⊎◌, inl, inr, Bool, true, false, List, [], ◌∷◌, ◌++◌, map, reverse, codes, Vec, Global, Ok, Err, refl, sym, ap, ap₂, ◌∙◌}
 use Rattle.c_lang.specs.Evaluation.{Look, ev}
 use Rattle.c_lang.specs.Moves.{Move}
 use Rattle.c_lang.specs.Names.{Bytes}
-use Rattle.c_lang.specs.PlainRun.{Store, PlainFrame, PlainConfig, plain_access}
+use Rattle.c_lang.specs.PlainRun.{Store, PlainFrame, PlainConfig, plain_access, start}
+use Rattle.c_lang.specs.Programs.{global_named, func_in, initial_value, initial_row}
 use Rattle.c_lang.specs.Steps as steps
 use Rattle.c_lang.specs.Steps.{Live}
 use Rattle.c_lang.specs.Trees.{expression_of}
@@ -13,6 +14,7 @@ use Rattle.c_lang.specs.declared.event.Trap.TheVariants.{NullCall}
 use Rattle.c_lang.specs.declared.expr.Expr.{Expr}
 use Rattle.c_lang.specs.declared.program.Program.{Program}
 use Rattle.c_lang.specs.declared.stmt.Dest.{Dest}
+use Rattle.c_lang.specs.declared.stmt.Dest.TheVariants.{Nowhere}
 use Rattle.c_lang.specs.declared.unit.Pos.{Pos}
 use Rattle.plain_run.specs.declared.frame.Frame.{Frame}
 use Rattle.plain_run.specs.declared.machine.Machine.{Machine}
@@ -22,8 +24,11 @@ use Rattle.plain_run.specs.Actions.{Call, done}
 use Rattle.plain_run.specs.Calls.{Arguments, after_value, values_in}
 use Rattle.plain_run.specs.Frames.{seen_frame, seen_frames}
 use Rattle.plain_run.specs.Machines.{config_if, program_of, store_of, behind_statement, look_in}
+use Rattle.plain_run.specs.Names.{seen_values, seen_rows}
+use Rattle.plain_run.specs.Stored.{Entries, Rows, store_with}
 use Rattle.plain_run.specs.Values.{seen_value}
 use Rattle.plain_run.proofs.FrameLaws.{seen_frames-push}
+use Rattle.plain_run.proofs.StoreLaws.{all_names}
 
 pub config_if-live : (over : Bool) (c : PlainConfig) → over ≡ false → config_if over c ≡ c
 config_if-live over c live = ap (λ b. config_if b c) live
@@ -62,3 +67,16 @@ module _ (m : Machine) (es : List Expr) (d : Dest) (p : Pos) where
       → steps.trapped (plain_access (program_of m)) NullCall p ≡ called_with (seen_value callee) (Ok vs)
   call-null callee vs (inl e) = ap (λ v. called_with (seen_value v) (Ok vs)) (sym e.1)
   call-null callee vs (inr e) = ap (λ v. called_with (seen_value v) (Ok vs)) (sym e)
+
+abbrev pub main : Program → PlainFrame
+main P = steps.frame_of (plain_access P) (tt, func_in P.funcs (codes "main")) [] Nowhere
+
+pub start-is : (P : Program) (values : Entries) (rows : Rows) (top : Frame) (below : Vec Frame Global)
+    → ((x : Bytes) → seen_values values x ≡ initial_value (λ f. f) (global_named P.globals x))
+    → ((x : Bytes) → seen_rows rows x ≡ initial_row (global_named P.globals x))
+    → seen_frame top ≡ main P → below.items ≡ []
+    → Live (store_with values rows) (seen_frame top) (seen_frames below) ≡ start P
+start-is P values rows top below at_values at_rows above empty =
+    ap (λ f. Live (store_with values rows) f (seen_frames below)) above
+    ∙ ap (λ frames. Live (store_with values rows) (main P) (reverse (map seen_frame frames))) empty
+    ∙ ap₂ (λ v (r : Bytes → List ℤ). Live (record { values = v; rows = r }) (main P) []) (all_names _ _ at_values) (all_names _ _ at_rows)

@@ -6,6 +6,7 @@ use Rattle.c_lang.specs.Names.{Bytes}
 use Rattle.c_lang.specs.PlainRun.{PlainFrame}
 use Rattle.c_lang.specs.Steps.{Item, Does, Mark}
 use Rattle.c_lang.specs.declared.stmt.Dest.{Dest}
+use Rattle.c_lang.specs.declared.stmt.Dest.TheVariants.{Nowhere}
 use Rattle.c_lang.specs.declared.stmt.Stmt.{Stmt}
 use Rattle.plain_run.specs.declared.value.Value.{Value}
 use Rattle.plain_run.specs.declared.frame.Rest.{Rest}
@@ -34,8 +35,12 @@ behind_first (item ∷ items) = items
 abbrev pub frame_with : List (Bor Bytes × Value) → List Item → Dest → Bool → PlainFrame
 frame_with locals items dest gives = record { origin = tt; locals = seen_locals locals; items = items; dest = dest; gives = gives }
 
+abbrev pub dest_of : Option (Bor Dest) → Dest
+dest_of None = Nowhere
+dest_of (Some d) = d.now
+
 abbrev pub seen_frame : Frame → PlainFrame
-seen_frame f = frame_with f.locals.entries (seen_items f.rest.items) f.dest.now f.gives
+seen_frame f = frame_with f.locals.entries (seen_items f.rest.items) (dest_of f.dest) f.gives
 
 -- the frame on top stands last
 abbrev pub seen_frames : Vec Frame Global → List PlainFrame

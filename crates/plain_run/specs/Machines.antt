@@ -13,7 +13,7 @@ use Rattle.plain_run.specs.declared.frame.Frame.{Frame}
 use Rattle.plain_run.specs.declared.step.Step.{Step}
 use Rattle.plain_run.specs.declared.step.RunError.{RunError}
 use Rattle.plain_run.specs.Actions.{Action, done}
-use Rattle.plain_run.specs.Frames.{frame_with, seen_items, behind_first, seen_frame, seen_frames}
+use Rattle.plain_run.specs.Frames.{frame_with, dest_of, seen_items, behind_first, seen_frame, seen_frames}
 use Rattle.plain_run.specs.Runs.{Makes_or_fails}
 use Rattle.plain_run.specs.Stored.{store_with}
 
@@ -33,7 +33,7 @@ config_of m = config_if m.over (Live (store_of m) (seen_frame m.top) (seen_frame
 
 -- the frame without the statement that runs next
 abbrev pub behind_statement : Frame → PlainFrame
-behind_statement f = frame_with f.locals.entries (behind_first (seen_items f.rest.items)) f.dest.now f.gives
+behind_statement f = frame_with f.locals.entries (behind_first (seen_items f.rest.items)) (dest_of f.dest) f.gives
 
 -- the action was done, in the place of the statement that ran next
 abbrev pub HasDone : Machine → Action → List ℤ → Result Step RunError → Machine → List ℤ → Type 0

@@ -7,7 +7,7 @@ ghost use Rattle.c_lang.specs.Programs.{no_func};
 ghost use Rattle.c_lang.specs.Steps.{bound, frame_of};
 ghost use Rattle.c_lang.specs.declared.program.Program.{Program};
 ghost use Rattle.plain_run.specs.Calls.{first_or_zero};
-ghost use Rattle.plain_run.specs.Frames.{seen_frame};
+ghost use Rattle.plain_run.specs.Frames.{dest_of, seen_frame};
 ghost use Rattle.plain_run.specs.Names.{seen_locals};
 ghost use Rattle.plain_run.specs.Values.{seen_value};
 
@@ -51,9 +51,9 @@ pub(crate) fn frame_of<'p>(
     alloc: Global,
     func: Option<&'p Func>,
     args: &[Value<'p>],
-    dest: &'p Dest,
+    dest: Option<&'p Dest>,
 ) -> Result<Frame<'p>, AllocError>
-    ensures { IfOk result (λ frame. (P : Program) → seen_frame frame ≡ frame_of (plain_access P) (tt, unwrap_or (option_copied func.entry) no_func) (map seen_value args.now) dest.entry.now) }
+    ensures { IfOk result (λ frame. (P : Program) → seen_frame frame ≡ frame_of (plain_access P) (tt, unwrap_or (option_copied func.entry) no_func) (map seen_value args.now) (dest_of dest.entry)) }
 {
     let mut rest = Vec::new(alloc);
     match func {

@@ -16,12 +16,13 @@ pub enum Rest<'p> {
     Loop(&'p Stmt),
 }
 
-/// A call that hasn't returned. The innermost body stands last in `rest`.
+/// A call that hasn't returned. The innermost body stands last in `rest`. The first frame has no
+/// `dest`.
 #[derive(Drop)]
 pub struct Frame<'p> {
     pub locals: Values<'p>,
     pub rest: Vec<Rest<'p>>,
-    pub dest: &'p Dest,
+    pub dest: Option<&'p Dest>,
     pub gives: bool,
 }
 

@@ -33,10 +33,7 @@ fn shape_row(alloc: Global, shape: &Shape) -> Result<Vec<i32>, AllocError>
 }
 
 /// The values of scalars and pointers.
-pub(crate) fn initial_values(
-    alloc: Global,
-    globals: &[GlobalVar],
-) -> Result<Values<'_>, AllocError>
+pub(crate) fn initial_values(alloc: Global, globals: &[GlobalVar]) -> Result<Values<'_>, AllocError>
     ensures { IfOk result (λ values. (x : List ℕ) → seen_values values.entries x ≡ initial_value (λ f. f) (global_named globals.now x)) }
 {
     let mut values = IndexMap::new(alloc);

@@ -9,10 +9,11 @@ use crate::call::frame_of;
 use crate::eval::Scope;
 use crate::frame::{Frame, drop_first, enter_body, enter_loop, first, leave_loop};
 use crate::indexed::IndexedProgram;
+use crate::initial::{initial_rows, initial_values};
 use crate::names::{Rows, Values, store, store_element};
 use crate::step::{RunError, Step};
 use crate::value::Value;
-use c_lang::{Dest, Event, Expr, Name, Pos, Stmt, Trap};
+use c_lang::{Dest, Event, Expr, Name, Pos, Program, Stmt, Trap};
 use std::alloc::{AllocError, Global};
 use std::mem;
 
@@ -75,6 +76,7 @@ impl<'p> Machine<'p> {
         self.over = true;
         Step::Shown(Event::Fault(trap, pos))
     }
+
     fn enter_loop(&mut self, body: &'p [Stmt], mark: &'p Stmt) -> Result<Step, RunError>
         requires { self.old.over ≡ false }
         ensures done { (a : List ℤ) → HasDone self.old (spec.Loop body.entry.now mark.entry.now) a result self.new a }
@@ -132,12 +134,7 @@ impl<'p> Machine<'p> {
         Ok(Step::Shown(Event::Input(number)))
     }
 
-    fn choice(
-        &mut self,
-        dest: &'p Dest,
-        k: u32,
-        answers: &mut Answers,
-    ) -> Result<Step, RunError>
+    fn choice(&mut self, dest: &'p Dest, k: u32, answers: &mut Answers) -> Result<Step, RunError>
         requires { self.old.over ≡ false }
         ensures done { HasDone self.old (spec.Choice dest.entry.now k) answers.old result self.new answers.new }
         ensures program { program_of self.new ≡ program_of self.old }
@@ -152,6 +149,7 @@ impl<'p> Machine<'p> {
         answers.skip();
         Ok(Step::Shown(Event::Choice(k, chosen)))
     }
+
     fn store_element(&mut self, array: &'p Name, at: i32, element: i32, pos: Pos) -> Step
         requires { self.old.over ≡ false }
         ensures done { (a : List ℤ) → HasDone self.old (spec.Store_element array.entry.now at element pos) a (Ok result) self.new a }
@@ -170,17 +168,17 @@ impl<'p> Machine<'p> {
         ensures done { (a : List ℤ) → HasDone self.old (spec.Return (seen_value value.entry)) a result self.new a }
         ensures program { program_of self.new ≡ program_of self.old }
     {
-        let given = if self.top.gives {
-            value
-        } else {
-            Value::Num(0)
-        };
+        let given = if self.top.gives { value } else { Value::Num(0) };
         let dest = self.top.dest;
         let Some(mut frame) = self.below.pop() else {
             self.over = true;
             return Ok(Step::Shown(Event::End(given.number())));
         };
-        match store(&mut frame.locals, &mut self.values, dest, given) {
+        let stored = match dest {
+            Some(dest) => store(&mut frame.locals, &mut self.values, dest, given),
+            None => Ok(()),
+        };
+        match stored {
             Ok(()) => {
                 self.top = frame;
                 Ok(Step::Quiet)
@@ -207,7 +205,7 @@ impl<'p> Machine<'p> {
         if self.below.len() >= MOST_FRAMES - 1 {
             return Err(RunError::Deep);
         }
-        let frame = frame_of(alloc, self.program.func(callee), args, dest)?;
+        let frame = frame_of(alloc, self.program.func(callee), args, Some(dest))?;
         self.below.reserve(1)?;
         drop_first(&mut self.top.rest);
         let caller = mem::replace(&mut self.top, frame);
@@ -263,5 +261,55 @@ impl<'p> Machine<'p> {
             Action::Output(number) => Ok(self.output(number)),
             Action::Choice(dest, k) => self.choice(dest, k, answers),
         }
+    }
+
+    fn advance(&mut self, alloc: Global, answers: &mut Answers) -> Result<Step, RunError>
+        ensures done { Makes_or_fails (step (program_of self.old) (config_of self.old)) (config_of self.old) answers.old result (config_of self.new) answers.new }
+        ensures program { program_of self.new ≡ program_of self.old }
+    {
+        if self.over {
+            return Ok(Step::Stopped);
+        }
+        match first(&mut self.top.rest) {
+            None => self.give_back(Value::Num(0)),
+            Some(statement) => {
+                let action = asked(self.scope(), statement);
+                self.perform(alloc, action, answers)
+            }
+        }
+    }
+
+    /// Makes a step.
+    pub fn step(&mut self, alloc: Global, answers: &mut Answers) -> Result<Step, RunError>
+        ensures made { IfOk result (λ shown. Makes (step (program_of self.old) (config_of self.old)) (config_of self.old) answers.old shown (config_of self.new) answers.new) }
+        ensures depth { frame_count (config_of self.new) ≤ 10000 }
+        ensures deep { IsErrOf result RunError.Deep → IsTooDeep (step (program_of self.old) (config_of self.old)) }
+        ensures config { OnErr result (config_of self.new ≡ config_of self.old) }
+        ensures answers { OnErr result (answers.new ≡ answers.old) }
+        ensures program { program_of self.new ≡ program_of self.old }
+    {
+        self.advance(alloc, answers)
+    }
+
+    /// The machine at the start of the program's run: the globals have their initial values, and
+    /// `main` is called. The only error is want of memory.
+    pub fn new(alloc: Global, program: &'p Program) -> Result<Machine<'p>, AllocError>
+        ensures config { IfOk result (λ machine. config_of machine ≡ start program.entry.now) }
+        ensures program { IfOk result (λ machine. program_of machine ≡ program.entry.now) }
+    {
+        let indexed = IndexedProgram::new(alloc, program)?;
+        let globals = program.globals.as_slice();
+        let values = initial_values(alloc, globals)?;
+        let rows = initial_rows(alloc, globals)?;
+        let main = Name::new(alloc, b"main")?;
+        let top = frame_of(alloc, indexed.func(&main), &[], None)?;
+        Ok(Machine {
+            program: indexed,
+            values,
+            rows,
+            top,
+            below: Vec::new(alloc),
+            over: false,
+        })
     }
 }

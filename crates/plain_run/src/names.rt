@@ -60,12 +60,7 @@ fn set_element(row: &mut Vec<i32>, at: i32, element: i32) -> bool
 }
 
 // The same for an array's row.
-pub(crate) fn store_element<'p>(
-    rows: &mut Rows<'p>,
-    array: &'p Name,
-    at: i32,
-    element: i32,
-) -> bool
+pub(crate) fn store_element<'p>(rows: &mut Rows<'p>, array: &'p Name, at: i32, element: i32) -> bool
     ensures { StoresElement rows.old.entries array.entry.now at element result rows.new.entries }
 {
     match rows.get_mut(&array) {
