@@ -1,0 +1,9 @@
+use Rattle.std.proofs.Common.{◌≡◌}
+use Rattle.plain_run.specs.Frames.{seen_items}
+use Rattle.plain_run.proofs.frame.first.Given as goal
+
+abbrev pub invariant-loop-last : goal.invariant-loop-last
+invariant-loop-last l = seen_items l.rest.items ≡ seen_items l.initial.rest.items
+
+abbrev pub decreases-loop-last : goal.decreases-loop-last
+decreases-loop-last l = goal.left-loop-last l

@@ -1,0 +1,11 @@
+pub mod Values
+pub mod Names
+pub mod Tables
+pub mod Scopes
+pub mod Frames
+pub mod Calls
+pub mod Stored
+pub mod Actions
+pub mod SeenActions
+pub mod Runs
+pub mod Machines
