@@ -20,3 +20,6 @@ mod WrittenStatements
 mod WrittenProgram
 mod PlainLaw
 mod PrintLaw
+mod StatementTrees
+mod ResolvedLaw
+mod TypedLaw

@@ -5,3 +5,4 @@ pub mod Heights
 pub mod Plain
 pub mod Positions
 pub mod Printable
+pub mod Checked

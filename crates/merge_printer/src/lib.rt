@@ -8,5 +8,7 @@ mod statements;
 #[cfg(test)]
 mod tests;
 mod text;
+mod typed;
 
 pub use program::{print_program, program_text};
+pub use typed::print;
