@@ -1,0 +1,5 @@
+pub mod Tables
+pub mod Declarations
+pub mod Statuses
+pub mod Parts
+pub mod Merged

@@ -1,0 +1,138 @@
+//! The names that a version declares.
+
+ghost use Rattle.std.specs.Prelude.{◌≡◌, IfOk, map};
+ghost use Rattle.c_lang.specs.Links as links;
+ghost use Rattle.version_names.specs.Declarations as spec;
+
+use c_lang::{Func, GlobalVar, Kind, Name, Shape};
+use sqlite_items::Items;
+use std::alloc::{AllocError, Global};
+
+/// What is compared of the declarations of two versions: a number, an array of so many elements, a
+/// pointer to functions of so many parameters, or a function with parameters of these kinds, which
+/// gives a value or not.
+#[derive(Debug, Drop)]
+pub enum What {
+    Number,
+    Row(usize),
+    Pointer(u8),
+    Code(Items<Kind>, bool),
+}
+
+impl What {
+    /// A copy. The only error is want of memory.
+    pub fn copy(&self, alloc: Global) -> Result<What, AllocError>
+        ensures { IfOk result (λ what. what ≡ self.now) }
+    {
+        match self {
+            What::Number => Ok(What::Number),
+            What::Row(size) => Ok(What::Row(*size)),
+            What::Pointer(arity) => Ok(What::Pointer(*arity)),
+            What::Code(kinds, gives) => Ok(What::Code(
+                Items::from_slice(alloc, kinds.as_slice())?,
+                *gives,
+            )),
+        }
+    }
+}
+
+/// A name with what it is declared as.
+#[derive(Debug, Drop)]
+pub struct Declared {
+    pub name: Name,
+    pub what: What,
+}
+
+fn same_kind(a: Kind, b: Kind) -> bool
+    ensures { result ≡ links.same_kind a b }
+{
+    match (a, b) {
+        (Kind::Int, Kind::Int) => true,
+        (Kind::Fp(m), Kind::Fp(n)) => m == n,
+        _ => false,
+    }
+}
+
+fn same_kinds(js: &[Kind], ks: &[Kind]) -> bool
+    ensures { result ≡ links.same_kinds js.now ks.now }
+{
+    let [j, js @ ..] = js else {
+        return ks.is_empty();
+    };
+    let [k, ks @ ..] = ks else {
+        return false;
+    };
+    same_kind(*j, *k) && same_kinds(js, ks)
+}
+
+fn same_result(a: bool, b: bool) -> bool
+    ensures { result ≡ links.same_result a b }
+{
+    if a { b } else { !b }
+}
+
+/// Whether two declarations are the same but for initial values.
+pub fn same_what(a: &What, b: &What) -> bool
+    ensures { result ≡ spec.same_what a.now b.now }
+{
+    match (a, b) {
+        (What::Number, What::Number) => true,
+        (What::Row(m), What::Row(n)) => m == n,
+        (What::Pointer(m), What::Pointer(n)) => m == n,
+        (What::Code(js, gives), What::Code(ks, other)) => {
+            same_kinds(js.as_slice(), ks.as_slice()) && same_result(*gives, *other)
+        }
+        _ => false,
+    }
+}
+
+fn what_of_shape(shape: &Shape) -> What
+    ensures { result ≡ spec.what_of_shape shape.now }
+{
+    match shape {
+        Shape::Int(_) => What::Number,
+        Shape::Arr(elements) => What::Row(elements.len()),
+        Shape::Fp(arity, _) => What::Pointer(*arity),
+    }
+}
+
+/// The globals. The only error is want of memory.
+pub fn declared_globals(alloc: Global, globals: &[GlobalVar]) -> Result<Vec<Declared>, AllocError>
+    ensures { IfOk result (λ all. all.items ≡ map spec.declared_global globals.now) }
+{
+    let mut all = Vec::new(alloc);
+    for global in globals {
+        let name = global.name.copy(alloc)?;
+        all.push(Declared {
+            name,
+            what: what_of_shape(&global.shape),
+        })?;
+    }
+    Ok(all)
+}
+
+fn kinds_of(alloc: Global, params: &[(Kind, Name)]) -> Result<Items<Kind>, AllocError>
+    ensures { IfOk result (λ kinds. kinds ≡ map spec.kind_of params.now) }
+{
+    let mut kinds = Vec::new(alloc);
+    for param in params {
+        kinds.push(param.0)?;
+    }
+    Ok(Items::from_vec(kinds))
+}
+
+/// The functions. The only error is want of memory.
+pub fn declared_funcs(alloc: Global, funcs: &[Func]) -> Result<Vec<Declared>, AllocError>
+    ensures { IfOk result (λ all. all.items ≡ map spec.declared_func funcs.now) }
+{
+    let mut all = Vec::new(alloc);
+    for func in funcs {
+        let name = func.name.copy(alloc)?;
+        let kinds = kinds_of(alloc, func.params.as_slice())?;
+        all.push(Declared {
+            name,
+            what: What::Code(kinds, func.gives),
+        })?;
+    }
+    Ok(all)
+}

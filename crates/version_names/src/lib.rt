@@ -1,0 +1,16 @@
+//! What two versions of a program share and what changed, name by name, and the names that a merged
+//! program has.
+#![tactic(auto)]
+
+mod declared;
+mod links;
+mod merged;
+mod part;
+mod status;
+mod table;
+#[cfg(test)]
+mod tests;
+
+pub use links::{Links, link, parts_are_linked};
+pub use merged::{merged_name, names_are_apart};
+pub use part::{Origin, Part, Sort2, Version};
