@@ -13,6 +13,7 @@ pub mod AtomLaws
 pub mod PointLaws
 pub mod SatisfiedLaws
 pub mod SizeLaws
+pub mod HalfLaws
 pub mod QuotientLaws
 pub mod LimitLaws
 pub mod PartialLaws

@@ -1,19 +1,13 @@
 -- Multipliers mixed place by place.
-use Rattle.std.proofs.Common.{◌≡◌, ◌∙◌, ◌<◌, ◌≤◌, ℕ, ◌+◌, ℤ, pos, ◌+ℤ◌, ◌*ℤ◌, List, [], ◌∷◌, ◌++◌, ap, sym, refl, arith, subst, Bool, true, false, ◌&&◌, length, drop, get_or, append_assoc, append-nil, Err, negsuc, nat_lt, ◌^◌, FitsSigned, ◌≤ℤ◌, ◌⊎◌, inl, inr}
-use Rattle.std.proofs.Math.IntN.{*ℤ-zero}
-use Rattle.linear_rows.proofs.Ring.{mul-le}
-use Rattle.std.specs.Prelude.{unsigned_abs}
-use Rattle.std.specs.Int.{w128}
-use Rattle.std.proofs.lemmas.Int.{fits_signed_from_abs, ints}
-use Rattle.linear_certs.specs.Stages.{is_negative}
+use Rattle.std.proofs.Common.{◌≡◌, ◌∙◌, ◌<◌, ◌≤◌, ℕ, ◌+◌, ℤ, pos, ◌+ℤ◌, ◌*ℤ◌, List, [], ◌∷◌, ◌++◌, ap, sym, refl, arith, Bool, true, false, ◌&&◌, length, drop, get_or, append_assoc, append-nil, suc, zero, Err}
 use Rattle.std.specs.List.{list_all}
 use Rattle.std.proofs.lemmas.List.Folds.{list_all-append}
 use Rattle.linear_rows.specs.Numbers.{fits}
 use Rattle.linear_rows.specs.declared.row.RowFail.{RowFail}
 use Rattle.linear_rows.specs.declared.row.RowFail.TheVariants.{NoMemory, Wide}
 use Rattle.linear_certs.specs.Stages.{mixed_multipliers}
-use Rattle.linear_certs.specs.Building.{IsNumber, IsMixedList, IsPast}
-use Rattle.linear_certs.proofs.Basics.{and-true, drop-all, drop-next}
+use Rattle.linear_certs.specs.Building.{IsNumber, IsMixedList}
+use Rattle.linear_certs.proofs.Basics.{and-both, and-true, drop-all, drop-next}
 
 and-false : (a b : Bool) → b ≡ false → (a && b) ≡ false
 and-false true b h = h
@@ -57,60 +51,8 @@ pub mixed-failed : (a b : ℤ) (left right done : List ℤ) (at : ℕ) (exact : 
 mixed-failed a b left right done at exact NoMemory h same so_far is failed = tt
 mixed-failed a b left right done at exact Wide h same so_far is failed = mixed-wide a b left right done at h same so_far (ap fits (sym is) ∙ failed)
 
--- A product past 128 bits, with one of the same sign, is past 2^100.
-by_size : {P : Type 0} (a b : ℕ) → (a < b → P) → (b ≤ a → P) → P
-by_size {P = P} a b less more = by_test (nat_lt a b) (λ e. less (grind (arith, e))) (λ e. more (grind (arith, e)))
-  where
-    by_test : (t : Bool) → (t ≡ true → P) → (t ≡ false → P) → P
-    by_test true one two = one refl
-    by_test false one two = two refl
-
-large : (p : ℤ) → (FitsSigned w128 p → ⊥) → 2 ^ 127 ≤ unsigned_abs p
-large p past = by_size (unsigned_abs p) (2 ^ 127) (λ h. absurd (past (fits_signed_from_abs w128 p h))) (λ h. h)
-
-large-wide : (z : ℤ) → 2 ^ 100 < unsigned_abs z → fits z ≡ false
-large-wide (pos n) h = grind (arith, h)
-large-wide (negsuc n) h = grind (arith, h)
-
--- Both at least 0, or both at most 0.
-abbrev pub AreAlike : ℤ → ℤ → Type 0
-AreAlike p q = ((pos 0 ≤ℤ p) × (pos 0 ≤ℤ q)) ⊎ ((p ≤ℤ pos 0) × (q ≤ℤ pos 0))
-
-larger : (p q : ℤ) → AreAlike p q → unsigned_abs p ≤ unsigned_abs (p +ℤ q)
-larger (pos p) (pos q) alike = omega (arith, ints)
-larger (negsuc p) (negsuc q) alike = omega (arith, ints)
-larger (pos p) (negsuc q) (inl h) = absurd (let b = h.1 in omega (arith, ints))
-larger (pos p) (negsuc q) (inr h) = let a = h.0 in omega (arith, ints)
-larger (negsuc p) (pos q) (inl h) = absurd (let a = h.0 in omega (arith, ints))
-larger (negsuc p) (pos q) (inr h) = let b = h.1 in omega (arith, ints)
-
-swap : (p q : ℤ) → q +ℤ p ≡ p +ℤ q
-swap p q = omega (arith, ints)
-
-first-past : (p q : ℤ) → AreAlike p q → (FitsSigned w128 p → ⊥) → fits (p +ℤ q) ≡ false
-first-past p q alike past = let one = large p past in let two = larger p q alike in large-wide (p +ℤ q) (omega arith)
-
-other-way : (p q : ℤ) → AreAlike p q → AreAlike q p
-other-way p q (inl h) = inl (h.1, h.0)
-other-way p q (inr h) = inr (h.1, h.0)
-
-second-past : (p q : ℤ) → AreAlike p q → (FitsSigned w128 q → ⊥) → fits (p +ℤ q) ≡ false
-second-past p q alike past = ap fits (sym (swap p q)) ∙ first-past q p (other-way p q alike) past
-
-up : (a m : ℤ) → pos 0 ≤ℤ a → pos 0 ≤ℤ m → pos 0 ≤ℤ (a *ℤ m)
-up a m h k = subst (λ z. z ≤ℤ (a *ℤ m)) (*ℤ-zero a) (mul-le a (pos 0) m h k)
-
-down : (a m : ℤ) → pos 0 ≤ℤ a → m ≤ℤ pos 0 → (a *ℤ m) ≤ℤ pos 0
-down a m h k = subst (λ z. (a *ℤ m) ≤ℤ z) (*ℤ-zero a) (mul-le a m (pos 0) h k)
-
-alike-products : (a b m n : ℤ) → pos 0 ≤ℤ a → pos 0 ≤ℤ b → is_negative m ≡ is_negative n → AreAlike (a *ℤ m) (b *ℤ n)
-alike-products a b (pos m) (pos n) h k same = inl (up a (pos m) h (omega (arith, ints)), up b (pos n) k (omega (arith, ints)))
-alike-products a b (negsuc m) (negsuc n) h k same = inr (down a (negsuc m) h (omega (arith, ints)), down b (negsuc n) k (omega (arith, ints)))
-alike-products a b (pos m) (negsuc n) h k same = absurd cc
-alike-products a b (negsuc m) (pos n) h k same = absurd cc
-
--- Where one of the products is past 128 bits.
-pub past-number : (a b m n : ℤ) (fail : RowFail) → pos 0 ≤ℤ a → pos 0 ≤ℤ b → IsPast m n fail → (FitsSigned w128 (a *ℤ m) → ⊥) ⊎ (FitsSigned w128 (b *ℤ n) → ⊥) → IsNumber (a *ℤ m +ℤ b *ℤ n) (Err fail)
-past-number a b m n NoMemory h k is past = tt
-past-number a b m n Wide h k is (inl past) = first-past (a *ℤ m) (b *ℤ n) (alike-products a b m n h k is) past
-past-number a b m n Wide h k is (inr past) = second-past (a *ℤ m) (b *ℤ n) (alike-products a b m n h k is) past
+-- A member of a list that fits.
+pub fits-at : (xs : List ℤ) (i : ℕ) → list_all fits xs ≡ true → i < length xs → fits (get_or xs i (pos 0)) ≡ true
+fits-at [] i h k = absurd (omega arith)
+fits-at (x ∷ xs) zero h k = (and-both (fits x) (list_all fits xs) h).0
+fits-at (x ∷ xs) (suc i) h k = fits-at xs i (and-both (fits x) (list_all fits xs) h).1 (omega arith)

@@ -1,5 +1,5 @@
 -- What the parts of the code answer.
-use Rattle.std.specs.Prelude.{◌≡◌, ◌<◌, ℕ, suc, ℤ, pos, ◌+ℤ◌, ◌*ℤ◌, List, [], ◌∷◌, true, false, ◌&&◌, Some, None, Result, Ok, Err, length, get_or, ⊤, Vec}
+use Rattle.std.specs.Prelude.{◌≡◌, ◌≤◌, ◌<◌, ◌^◌, unsigned_abs, ℕ, suc, ℤ, pos, ◌+ℤ◌, ◌*ℤ◌, List, [], ◌∷◌, true, false, ◌&&◌, Some, None, Result, Ok, Err, length, get_or, ⊤, Vec}
 use Rattle.std.specs.declared.alloc.Global.{Global}
 use Rattle.std.specs.List.{All, Contains, list_all}
 use Rattle.linear_rows.specs.declared.row.Row.{Row}
@@ -9,9 +9,10 @@ use Rattle.linear_rows.specs.Numbers.{fits}
 use Rattle.linear_rows.specs.Sums.{row_fits, dot, From, IsInForm}
 use Rattle.linear_rows.specs.Combinations.{AreAllowed}
 use Rattle.linear_certs.specs.declared.entry.Entry.{Entry}
+use Rattle.linear_certs.specs.declared.mix.Halves.{Halves}
 use Rattle.linear_certs.specs.declared.elimination.Stage.{Stage}
 use Rattle.linear_certs.specs.declared.elimination.Elimination.{Elimination}
-use Rattle.linear_certs.specs.Stages.{is_negative, multiple, mixed, mixed_multipliers, combined, is_false, least_atom, stage}
+use Rattle.linear_certs.specs.Stages.{multiple, mixed, mixed_multipliers, combined, is_false, least_atom, stage}
 use Rattle.linear_certs.specs.Wide.{numbers_fit}
 use Rattle.linear_certs.specs.Answers.{NoFalseUpTo}
 
@@ -26,10 +27,11 @@ IsNumber exact (Ok number) = (number ≡ exact) × (fits exact ≡ true)
 IsNumber exact (Err Wide) = fits exact ≡ false
 IsNumber exact (Err NoMemory) = ⊤
 
--- Wide only where both numbers are at least 0, or both are below 0.
-abbrev pub IsPast : ℤ → ℤ → RowFail → Type 0
-IsPast m n NoMemory = ⊤
-IsPast m n Wide = is_negative m ≡ is_negative n
+-- The number by its halves, of which each is at most 2^50 in size.
+pub record IsHalved (number : ℤ) (halves : Halves) : Type 0 where
+  pub value : number ≡ halves.high *ℤ pos (2 ^ 50) +ℤ halves.low
+  pub high : unsigned_abs halves.high ≤ 2 ^ 50
+  pub low : unsigned_abs halves.low ≤ 2 ^ 50
 
 abbrev pub IsMixedList : ℤ → List ℤ → ℤ → List ℤ → Result (Vec ℤ Global) RowFail → Type 0
 IsMixedList a left b right (Ok sums) = (sums.items ≡ mixed_multipliers a left b right) × (list_all fits sums.items ≡ true)

@@ -30,8 +30,6 @@ fn eliminate(alloc: Global, rows: &[Row]) -> Result<Elimination, Leaf>
 /// wide pair, and no stage up to it more than 20,000 rows, the answer is `Found` or `NoMemory`.
 ///
 /// The point is the one of the stages, and `Far` comes where a number of it is past 128 bits.
-/// `NoMemory` also comes where the multipliers of an equality have products past 128 bits that may
-/// cancel.
 pub fn refute(alloc: Global, rows: &[Row]) -> Leaf
     requires in_form { All IsInForm rows.now }
     requires narrow { All (λ row. row_fits row ≡ true) rows.now }

@@ -1,11 +1,11 @@
-ghost use Rattle.std.specs.Prelude.{◌≡◌, ◌+ℤ◌, ◌*ℤ◌, ◌≤ℤ◌, ℤ, pos, length, true, false, IfErr};
+ghost use Rattle.std.specs.Prelude.{◌≡◌, ◌≤◌, ◌^◌, ◌+ℤ◌, ◌*ℤ◌, pos, length, true, unsigned_abs, IfSome, IsNone};
 ghost use Rattle.std.specs.List.{list_all};
 ghost use Rattle.linear_rows.specs.Numbers.{fits, kept};
 ghost use Rattle.linear_rows.specs.Sums.{row_fits, plus_times};
 ghost use Rattle.linear_rows.specs.Added.{IsAdded};
 ghost use Rattle.linear_rows.specs.Combinations.{nothing};
 ghost use Rattle.linear_certs.specs.Stages.{multiple, mixed, mixed_multipliers};
-ghost use Rattle.linear_certs.specs.Building.{IsMixedRow, IsMixedList, IsNumber, IsPast};
+ghost use Rattle.linear_certs.specs.Building.{IsMixedRow, IsMixedList, IsNumber, IsHalved};
 
 use linear_rows::{Row, RowFail, add_times};
 use sqlite_items::Items;
@@ -46,45 +46,83 @@ pub(crate) fn is_small(number: i128) -> bool
     -LIMIT <= number && number <= LIMIT
 }
 
-fn narrow_sum(first: i128, second: i128) -> Result<i128, RowFail>
-    ensures { IsNumber (first +ℤ second) result }
+/// The number, if it is at most 2^100 in size.
+fn narrow(number: i128) -> Result<i128, RowFail>
+    ensures { IsNumber number result }
 {
-    let Some(sum) = first.checked_add(second) else {
-        return Err(RowFail::Wide);
-    };
-    if is_small(sum) {
-        Ok(sum)
+    if is_small(number) {
+        Ok(number)
     } else {
         Err(RowFail::Wide)
     }
 }
 
-/// What a sum is whose first or second product is past 128 bits: past 2^100 where both numbers have
-/// one sign. Else the products may cancel, and it isn't known.
-fn past_128_bits(m: i128, n: i128) -> RowFail
-    ensures { IsPast m n result }
+/// 2^50.
+const HALF: i128 = 1125899906842624;
+
+/// A number as `high * 2^50 + low`.
+#[derive(Clone, Copy, Debug)]
+pub(crate) struct Halves {
+    pub high: i128,
+    pub low: i128,
+}
+
+fn halved(number: i128) -> Halves
+    requires { fits number ≡ true }
+    ensures { IsHalved number result }
 {
-    if (m < 0) == (n < 0) {
-        RowFail::Wide
-    } else {
-        RowFail::NoMemory
+    Halves {
+        high: number / HALF,
+        low: number % HALF,
     }
 }
 
-/// `a * m + b * n`. `Wide` comes only where it is past 2^100 in size, and `NoMemory` only where a
-/// product is past 128 bits and the products may cancel.
+/// `a * b + c * d` of halves.
+fn sum_of_products(a: i128, b: i128, c: i128, d: i128) -> i128
+    requires a { unsigned_abs a ≤ 2 ^ 50 }
+    requires b { unsigned_abs b ≤ 2 ^ 50 }
+    requires c { unsigned_abs c ≤ 2 ^ 50 }
+    requires d { unsigned_abs d ≤ 2 ^ 50 }
+    ensures value { result ≡ a *ℤ b +ℤ c *ℤ d }
+    ensures small { unsigned_abs result ≤ 2 ^ 101 }
+{
+    a * b + c * d
+}
+
+/// `high * 2^50 + low`, where it fits 128 bits.
+fn joined(high: i128, low: i128) -> Option<i128>
+    requires { unsigned_abs low ≤ 2 ^ 102 }
+    ensures value { IfSome result (λ whole. whole ≡ high *ℤ pos (2 ^ 50) +ℤ low) }
+    ensures past { IsNone result → 2 ^ 126 ≤ unsigned_abs (high *ℤ pos (2 ^ 50) +ℤ low) }
+{
+    let shifted = high.checked_mul(HALF)?;
+    shifted.checked_add(low)
+}
+
+/// `a * m + b * n`. `Wide` comes exactly where it is past 2^100 in size. The products may be past
+/// 128 bits and still cancel.
 fn mixed_number(a: i128, m: i128, b: i128, n: i128) -> Result<i128, RowFail>
-    requires a_up { pos 0 ≤ℤ a }
-    requires b_up { pos 0 ≤ℤ b }
+    requires a { fits a ≡ true }
+    requires m { fits m ≡ true }
+    requires b { fits b ≡ true }
+    requires n { fits n ≡ true }
     ensures { IsNumber (a *ℤ m +ℤ b *ℤ n) result }
 {
-    let Some(first) = a.checked_mul(m) else {
-        return Err(past_128_bits(m, n));
+    let x = halved(a);
+    let y = halved(m);
+    let v = halved(b);
+    let w = halved(n);
+    let high = sum_of_products(x.high, y.high, v.high, w.high);
+    let one = sum_of_products(x.high, y.low, v.high, w.low);
+    let two = sum_of_products(x.low, y.high, v.low, w.high);
+    let low = sum_of_products(x.low, y.low, v.low, w.low);
+    let Some(upper) = joined(high, one + two) else {
+        return Err(RowFail::Wide);
     };
-    let Some(second) = b.checked_mul(n) else {
-        return Err(past_128_bits(m, n));
+    let Some(sum) = joined(upper, low) else {
+        return Err(RowFail::Wide);
     };
-    narrow_sum(first, second)
+    narrow(sum)
 }
 
 /// `a * left + b * right`, place by place.
@@ -96,8 +134,10 @@ pub(crate) fn mixed_list(
     right: &[i128],
 ) -> Result<Vec<i128>, RowFail>
     requires count { length left.now ≡ length right.now }
-    requires a_up { pos 0 ≤ℤ a }
-    requires b_up { pos 0 ≤ℤ b }
+    requires a { fits a ≡ true }
+    requires b { fits b ≡ true }
+    requires left { list_all fits left.now ≡ true }
+    requires right { list_all fits right.now ≡ true }
     ensures { IsMixedList a left.now b right.now result }
 {
     let mut sums = Vec::new(alloc);

@@ -1,4 +1,6 @@
 ghost use Rattle.std.specs.Prelude.{◌≡◌, ◌≤◌, ◌<◌, ◌^◌, pos, ◌/◌, length, true, unsigned_abs};
+ghost use Rattle.std.specs.List.{list_all};
+ghost use Rattle.linear_rows.specs.Numbers.{fits};
 ghost use Rattle.linear_rows.specs.Sums.{From, coefficient, row_fits};
 ghost use Rattle.linear_certs.specs.Divisors.{gcd};
 ghost use Rattle.linear_certs.specs.Stages.{is_upper, is_lower, lacks, first_atom, smaller, least_atom};
@@ -103,6 +105,8 @@ pub(crate) fn combined(
     requires above { is_upper atom upper.now ≡ true }
     requires below { is_lower atom lower.now ≡ true }
     requires count { length upper.now.multipliers ≡ length lower.now.multipliers }
+    requires upper_small { list_all fits upper.now.multipliers ≡ true }
+    requires lower_small { list_all fits lower.now.multipliers ≡ true }
     ensures { IsCombined atom upper.now lower.now result }
 {
     let p = size_in(upper, atom);

@@ -178,8 +178,8 @@ fn truth(form: &Form, at: &Valuation) -> Option<bool>
 
 /// Whether the form is true at the valuation. None comes exactly where a name in the form isn't
 /// listed there, as a number or as an array as it stands in the form, or where some term in the
-/// form is worth more than 2^100 or less than -2^100. Every term counts, also one that could not change
-/// the answer. It takes no memory.
+/// form is worth more than 2^100 or less than -2^100. Every term counts, also one that could not
+/// change the answer. It takes no memory.
 pub fn holds_at(form: &Form, at: &Valuation) -> Option<bool>
     ensures { result ≡ form_value at.now (form_tree form.now) }
 {

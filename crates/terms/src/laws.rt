@@ -8,8 +8,8 @@ ghost use Rattle.terms.specs.Truth.{Interpretation, AgreesAt, term_at, array_at,
 ghost use Rattle.terms.specs.Replacing.{Change, Avoids, number_by, changed, replaced_term, replaced_array, replaced_form, replaced_fact};
 
 /// Where names are replaced, all at once, terms are worth, arrays hold, and forms and facts are
-/// true, what they were with each name standing for what replaced it. Of a fact, nothing that is put
-/// in may have the bound name.
+/// true, what they were with each name standing for what replaced it. Of a fact, nothing that is
+/// put in may have the bound name.
 pub fn truth_where_replaced()
     ensures terms { (c : Change) (v : Interpretation) (t : TermTree) →
         term_at v (replaced_term c t) ≡ term_at (changed c v) t }
@@ -26,8 +26,8 @@ pub fn truth_where_replaced()
 pub fn truth_by_free_names()
     ensures terms { (v w : Interpretation) (t : TermTree) → All (AgreesAt v w) (term_names t) →
         term_at v t ≡ term_at w t }
-    ensures arrays { (v w : Interpretation) (a : ArrayTree) (k : ℤ) → All (AgreesAt v w) (array_names a) →
-        array_at v a k ≡ array_at w a k }
+    ensures arrays { (v w : Interpretation) (a : ArrayTree) (k : ℤ) →
+        All (AgreesAt v w) (array_names a) → array_at v a k ≡ array_at w a k }
     ensures forms { (v w : Interpretation) (f : FormTree) → All (AgreesAt v w) (form_names f) →
         form_at v f ≡ form_at w f }
     ensures facts { (v w : Interpretation) (f : FactTree) → All (AgreesAt v w) (fact_names f) →
@@ -36,7 +36,7 @@ pub fn truth_by_free_names()
 
 /// A fact about a range holds of each term that is worth a number of the range.
 pub fn truth_of_instance()
-    ensures { (v : Interpretation) (x : Sym) (lo hi t : TermTree) (f : FormTree) → FactAt v (all x lo hi f) →
-        term_at v lo ≤ℤ term_at v t → term_at v t <ℤ term_at v hi →
+    ensures { (v : Interpretation) (x : Sym) (lo hi t : TermTree) (f : FormTree) →
+        FactAt v (all x lo hi f) → term_at v lo ≤ℤ term_at v t → term_at v t <ℤ term_at v hi →
         IsTrue (form_at v (replaced_form (number_by x t) f)) }
 {}

@@ -98,7 +98,8 @@ fn add_name(alloc: Global, names: &mut Vec<Sym>, name: &Sym) -> Result<(), Alloc
 #[cycle(adding)]
 #[tactic(auto, using(crate::proofs::FreeLaws::adding))]
 fn add_term(alloc: Global, names: &mut Vec<Sym>, term: &Term) -> Result<(), AllocError>
-    ensures { OnOk result (names.new.items ≡ with_names names.old.items (term_names (term_tree term.now))) }
+    ensures { OnOk result
+        (names.new.items ≡ with_names names.old.items (term_names (term_tree term.now))) }
 {
     match term {
         Term::Num(_) => Ok(()),
@@ -122,7 +123,8 @@ fn add_term(alloc: Global, names: &mut Vec<Sym>, term: &Term) -> Result<(), Allo
 #[cycle(adding)]
 #[tactic(auto, using(crate::proofs::FreeLaws::adding))]
 fn add_array(alloc: Global, names: &mut Vec<Sym>, array: &ArrayTerm) -> Result<(), AllocError>
-    ensures { OnOk result (names.new.items ≡ with_names names.old.items (array_names (array_tree array.now))) }
+    ensures { OnOk result
+        (names.new.items ≡ with_names names.old.items (array_names (array_tree array.now))) }
 {
     match array {
         ArrayTerm::Base(name) => add_name(alloc, names, name),
@@ -137,7 +139,8 @@ fn add_array(alloc: Global, names: &mut Vec<Sym>, array: &ArrayTerm) -> Result<(
 #[cycle(adding)]
 #[tactic(auto, using(crate::proofs::FreeLaws::adding))]
 fn add_form(alloc: Global, names: &mut Vec<Sym>, form: &Form) -> Result<(), AllocError>
-    ensures { OnOk result (names.new.items ≡ with_names names.old.items (form_names (form_tree form.now))) }
+    ensures { OnOk result
+        (names.new.items ≡ with_names names.old.items (form_names (form_tree form.now))) }
 {
     match form {
         Form::True | Form::False => Ok(()),
@@ -153,8 +156,8 @@ fn add_form(alloc: Global, names: &mut Vec<Sym>, form: &Form) -> Result<(), Allo
     }
 }
 
-/// The names in the form, those of numbers and those of arrays, each once and in the order of their
-/// first places. A form binds no name, so all are free.
+/// The names in the form, those of numbers and those of arrays, each once and in the order of
+/// their first places. A form binds no name, so all are free.
 #[tactic(auto, using(crate::proofs::FreeLaws::with_names_of))]
 pub fn free(alloc: Global, form: &Form) -> Result<Vec<Sym>, AllocError>
     ensures { IfOk result (λ names. names.items ≡ distinct_names (form_tree form.now)) }

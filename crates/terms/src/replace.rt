@@ -22,7 +22,8 @@ fn boxed_term(
     term: &Boxed<Term>,
     by: &Replacement,
 ) -> Result<Boxed<Term>, AllocError>
-    ensures { IfOk result (λ made. term_tree made ≡ replaced_term (change_of by.now) (term_tree term.now)) }
+    ensures { IfOk result (λ made.
+        term_tree made ≡ replaced_term (change_of by.now) (term_tree term.now)) }
 {
     Boxed::new(alloc, replaced_in_term(alloc, term.get(), by)?)
 }
@@ -30,7 +31,8 @@ fn boxed_term(
 #[cycle(replacing)]
 #[tactic(auto, using(crate::proofs::TreeLemmas::tree_levels))]
 fn replaced_in_term(alloc: Global, term: &Term, by: &Replacement) -> Result<Term, AllocError>
-    ensures { IfOk result (λ made. term_tree made ≡ replaced_term (change_of by.now) (term_tree term.now)) }
+    ensures { IfOk result (λ made.
+        term_tree made ≡ replaced_term (change_of by.now) (term_tree term.now)) }
 {
     match term {
         Term::Num(number) => Ok(Term::Num(*number)),
@@ -69,7 +71,8 @@ fn boxed_array(
     array: &Boxed<ArrayTerm>,
     by: &Replacement,
 ) -> Result<Boxed<ArrayTerm>, AllocError>
-    ensures { IfOk result (λ made. array_tree made ≡ replaced_array (change_of by.now) (array_tree array.now)) }
+    ensures { IfOk result (λ made.
+        array_tree made ≡ replaced_array (change_of by.now) (array_tree array.now)) }
 {
     Boxed::new(alloc, replaced_in_array(alloc, array.get(), by)?)
 }
@@ -81,7 +84,8 @@ fn replaced_in_array(
     array: &ArrayTerm,
     by: &Replacement,
 ) -> Result<ArrayTerm, AllocError>
-    ensures { IfOk result (λ made. array_tree made ≡ replaced_array (change_of by.now) (array_tree array.now)) }
+    ensures { IfOk result (λ made.
+        array_tree made ≡ replaced_array (change_of by.now) (array_tree array.now)) }
 {
     match array {
         ArrayTerm::Base(name) => array_for(alloc, name, by),
@@ -102,7 +106,8 @@ fn boxed_form(
     form: &Boxed<Form>,
     by: &Replacement,
 ) -> Result<Boxed<Form>, AllocError>
-    ensures { IfOk result (λ made. form_tree made ≡ replaced_form (change_of by.now) (form_tree form.now)) }
+    ensures { IfOk result (λ made.
+        form_tree made ≡ replaced_form (change_of by.now) (form_tree form.now)) }
 {
     Boxed::new(alloc, replaced_in_form(alloc, form.get(), by)?)
 }
@@ -110,7 +115,8 @@ fn boxed_form(
 #[cycle(replacing)]
 #[tactic(auto, using(crate::proofs::TreeLemmas::tree_levels))]
 fn replaced_in_form(alloc: Global, form: &Form, by: &Replacement) -> Result<Form, AllocError>
-    ensures { IfOk result (λ made. form_tree made ≡ replaced_form (change_of by.now) (form_tree form.now)) }
+    ensures { IfOk result (λ made.
+        form_tree made ≡ replaced_form (change_of by.now) (form_tree form.now)) }
 {
     match form {
         Form::True => Ok(Form::True),
@@ -184,7 +190,8 @@ fn replaced_below(
 }
 
 fn replaced_in_fact(alloc: Global, fact: &Fact, by: &Replacement) -> Result<Fact, AllocError>
-    ensures { IfOk result (λ made. fact_tree made ≡ replaced_fact (change_of by.now) (fact_tree fact.now)) }
+    ensures { IfOk result (λ made.
+        fact_tree made ≡ replaced_fact (change_of by.now) (fact_tree fact.now)) }
 {
     match fact {
         Fact::Plain(form) => Ok(Fact::Plain(replaced_in_form(alloc, form, by)?)),
@@ -201,7 +208,8 @@ fn replaced_in_fact(alloc: Global, fact: &Fact, by: &Replacement) -> Result<Fact
 /// of what `by` is worth for `name`.
 pub fn subst(alloc: Global, form: &Form, name: &Sym, by: &Term) -> Result<Form, AllocError>
     ensures replaced { IfOk result (λ made.
-        form_tree made ≡ replaced_form (number_by name.now (term_tree by.now)) (form_tree form.now)) }
+        form_tree made
+        ≡ replaced_form (number_by name.now (term_tree by.now)) (form_tree form.now)) }
     ensures truth { IfOk result (λ made. (v : Interpretation) →
         form_at v (form_tree made)
         ≡ form_at (with_value v name.now (term_at v (term_tree by.now))) (form_tree form.now)) }
@@ -213,7 +221,8 @@ pub fn subst(alloc: Global, form: &Form, name: &Sym, by: &Term) -> Result<Form, 
 /// of what `by` holds for `name`.
 pub fn subst_row(alloc: Global, form: &Form, name: &Sym, by: &ArrayTerm) -> Result<Form, AllocError>
     ensures replaced { IfOk result (λ made.
-        form_tree made ≡ replaced_form (array_by name.now (array_tree by.now)) (form_tree form.now)) }
+        form_tree made
+        ≡ replaced_form (array_by name.now (array_tree by.now)) (form_tree form.now)) }
     ensures truth { IfOk result (λ made. (v : Interpretation) →
         form_at v (form_tree made)
         ≡ form_at (with_array v name.now (array_at v (array_tree by.now))) (form_tree form.now)) }
@@ -227,7 +236,8 @@ pub fn subst_row(alloc: Global, form: &Form, name: &Sym, by: &ArrayTerm) -> Resu
 pub fn subst_fact(alloc: Global, fact: &Fact, name: &Sym, by: &Term) -> Result<Fact, AllocError>
     requires { captures (fact_tree fact.now) (term_names (term_tree by.now)) ≡ false }
     ensures replaced { IfOk result (λ made.
-        fact_tree made ≡ replaced_fact (number_by name.now (term_tree by.now)) (fact_tree fact.now)) }
+        fact_tree made
+        ≡ replaced_fact (number_by name.now (term_tree by.now)) (fact_tree fact.now)) }
     ensures truth { IfOk result (λ made. (v : Interpretation) →
         FactAt v (fact_tree made)
         ↔ FactAt (with_value v name.now (term_at v (term_tree by.now))) (fact_tree fact.now)) }
@@ -236,8 +246,8 @@ pub fn subst_fact(alloc: Global, fact: &Fact, name: &Sym, by: &Term) -> Result<F
 }
 
 /// The fact with `by` wherever `name` stands as an array. `by` may not have the bound name, for
-/// which `Fact::captures_row` is the test. What is made is true exactly where `fact` is true of what
-/// `by` holds for `name`.
+/// which `Fact::captures_row` is the test. What is made is true exactly where `fact` is true of
+/// what `by` holds for `name`.
 pub fn subst_fact_row(
     alloc: Global,
     fact: &Fact,
@@ -246,7 +256,8 @@ pub fn subst_fact_row(
 ) -> Result<Fact, AllocError>
     requires { captures (fact_tree fact.now) (array_names (array_tree by.now)) ≡ false }
     ensures replaced { IfOk result (λ made.
-        fact_tree made ≡ replaced_fact (array_by name.now (array_tree by.now)) (fact_tree fact.now)) }
+        fact_tree made
+        ≡ replaced_fact (array_by name.now (array_tree by.now)) (fact_tree fact.now)) }
     ensures truth { IfOk result (λ made. (v : Interpretation) →
         FactAt v (fact_tree made)
         ↔ FactAt (with_array v name.now (array_at v (array_tree by.now))) (fact_tree fact.now)) }

@@ -26,7 +26,8 @@ impl Valuation {
             .map(|pair| pair.1)
     }
 
-    /// The pairs of the array that the name stands for, if it is listed as one. It takes no memory.
+    /// The pairs of the array that the name stands for, if it is listed as one. It takes no
+    /// memory.
     pub fn row(&self, name: &Sym) -> Option<&[(i128, i128)]>
         ensures { option_copied result ≡ listed_row self.now name.now }
     {
