@@ -52,23 +52,23 @@ initial_complete outside (shape.Arr zs) h = refl
 initial_complete outside (shape.Fp n None) h = refl
 initial_complete outside (shape.Fp n (Some f)) h = function_complete (Fp n) (meant (found outside f)) h
 
-held_sound : (early : List Refusal) (s : Shape) → wrong_shape early s ≡ None → IsHeld s
-held_sound early (shape.Int z) h = tt
-held_sound early (shape.Arr []) h = some_none (early_number early) h
-held_sound early (shape.Arr (z ∷ zs)) h = tt
-held_sound early (shape.Fp n f) h = narrow_sound (Fp n) h
-
-held_complete : (early : List Refusal) (s : Shape) → IsHeld s → wrong_shape early s ≡ None
-held_complete early (shape.Int z) h = refl
-held_complete early (shape.Arr []) h = absurd h
-held_complete early (shape.Arr (z ∷ zs)) h = refl
-held_complete early (shape.Fp n f) h = narrow_complete (Fp n) h
-
 cells_sound : (room cells : ℕ) → wrong_cells room cells ≡ None → cells ≤ room
 cells_sound room cells h = let e = test_false (nat_lt room cells) 27 h in grind (arith, nat_tests, e)
 
 cells_complete : (room cells : ℕ) → cells ≤ room → wrong_cells room cells ≡ None
 cells_complete room cells h = let e : nat_lt room cells ≡ false = grind (arith, nat_tests, h) in rw e refl
+
+held_sound : (early : List Refusal) (s : Shape) → wrong_shape early s ≡ None → IsHeld s
+held_sound early (shape.Int z) h = tt
+held_sound early (shape.Arr []) h = some_none (early_number early) h
+held_sound early (shape.Arr (z ∷ zs)) h = cells_sound 65536 (length (z ∷ zs)) h
+held_sound early (shape.Fp n f) h = narrow_sound (Fp n) h
+
+held_complete : (early : List Refusal) (s : Shape) → IsHeld s → wrong_shape early s ≡ None
+held_complete early (shape.Int z) h = refl
+held_complete early (shape.Arr []) h = absurd h
+held_complete early (shape.Arr (z ∷ zs)) h = cells_complete 65536 (length (z ∷ zs)) h
+held_complete early (shape.Fp n f) h = narrow_complete (Fp n) h
 
 global_sound : (early : List Refusal) (outside seen : Entries) (room : ℕ) (g : GlobalVar) → wrong_global early outside seen room g ≡ None
     → IsTypedGlobal outside seen room g

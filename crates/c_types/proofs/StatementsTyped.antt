@@ -173,7 +173,7 @@ return_complete names false (Some e) h = absurd h
 
 -- ---- elements and answers
 
-row_kind : (names : Names) (m : Means) (e : Expression) → IsRow m → element_kind names m e ≡ Int
+pub row_kind : (names : Names) (m : Means) (e : Expression) → IsRow m → element_kind names m e ≡ Int
 row_kind names Row e h = refl
 row_kind names (Cell k) e h = absurd h
 row_kind names (Code params gives value denied) e h = absurd h

@@ -11,3 +11,4 @@ pub mod Programs
 pub mod Kept
 pub mod Typing
 pub mod Types
+pub mod Plain

@@ -60,7 +60,7 @@ wrong_initial outside (shape.Arr zs) = None
 wrong_initial outside (shape.Fp n None) = None
 wrong_initial outside (shape.Fp n (Some f)) = wrong_function (Fp n) (meant (found outside f))
 
--- the first array that has no elements here has the first entry of `early`
+-- the first array that has no elements here is refused by the first entry of `early`
 abbrev pub early_number : List Refusal → ℕ
 early_number [] = 27
 early_number (r ∷ rs) = r.number
@@ -68,7 +68,7 @@ early_number (r ∷ rs) = r.number
 abbrev pub wrong_shape : List Refusal → Shape → Option ℕ
 wrong_shape early (shape.Int z) = None
 wrong_shape early (shape.Arr []) = Some (early_number early)
-wrong_shape early (shape.Arr (z ∷ zs)) = None
+wrong_shape early (shape.Arr (z ∷ zs)) = if nat_lt 65536 (length (z ∷ zs)) then Some 27 else None
 wrong_shape early (shape.Fp n f) = wrong_kind (Fp n)
 
 abbrev pub cells_of : Shape → ℕ

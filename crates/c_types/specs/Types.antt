@@ -32,11 +32,11 @@ IsInitial outside (shape.Arr zs) = ⊤
 IsInitial outside (shape.Fp n None) = ⊤
 IsInitial outside (shape.Fp n (Some f)) = IsFunction (Fp n) (meant (found outside f))
 
--- an array has elements, a pointer has at most 32 parameters
+-- an array has 1 to 65,536 elements, a pointer has at most 32 parameters
 abbrev pub IsHeld : Shape → Type 0
 IsHeld (shape.Int z) = ⊤
 IsHeld (shape.Arr []) = ⊥
-IsHeld (shape.Arr (z ∷ zs)) = ⊤
+IsHeld (shape.Arr (z ∷ zs)) = length (z ∷ zs) ≤ 65536
 IsHeld (shape.Fp n f) = IsNarrow (Fp n)
 
 -- `seen` has what is declared before, `room` is how many cells there may still be
