@@ -45,6 +45,6 @@ locals_leave es ss = let b = locals_behind es ss in rw b.is (take-append_seam es
 pub block_left : (s t : Scope) (ss : Statements) (base mark : ℕ) (locals ahead : Entries)
     → base ≡ length s.locals → mark ≡ length s.ahead → t ≡ scope_after_all (entered s ss) ss
     → locals ≡ take base t.locals → ahead ≡ take mark t.ahead
-    → ◌≡◌ {A = Scope} (record { outside = t.outside; locals = locals; told = t.told; ahead = ahead; gives = t.gives; effects = t.effects }) (after_block s ss)
+    → ◌≡◌ {A = Scope} (record { outside = t.outside; locals = locals; told = t.told; ahead = ahead; gives = t.gives; xform = t.xform }) (after_block s ss)
 block_left s t ss base mark locals ahead at_base at_mark after cut cut_ahead =
     rw (cut, cut_ahead, after, at_base, at_mark, locals_leave s.locals ss, locals_leave s.ahead ss) refl

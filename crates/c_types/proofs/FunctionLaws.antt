@@ -9,6 +9,6 @@ pub params_outside : (s : Scope) (ps : List (Kind × Bytes)) → (with_params s 
 params_outside s [] = refl
 params_outside s (p ∷ ps) = params_outside (with_param s p) ps
 
-pub params_effects : (s : Scope) (ps : List (Kind × Bytes)) → (with_params s ps).effects ≡ s.effects
-params_effects s [] = refl
-params_effects s (p ∷ ps) = params_effects (with_param s p) ps
+pub params_xform : (s : Scope) (ps : List (Kind × Bytes)) → (with_params s ps).xform ≡ s.xform
+params_xform s [] = refl
+params_xform s (p ∷ ps) = params_xform (with_param s p) ps

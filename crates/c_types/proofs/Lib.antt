@@ -5,3 +5,4 @@ pub mod Combined
 pub mod ExpressionsTyped
 pub mod StatementsTyped
 pub mod ProgramsTyped
+pub mod PlainLaws

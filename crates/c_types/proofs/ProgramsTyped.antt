@@ -4,6 +4,7 @@ use Rattle.std.specs.Prelude.{if◌then◌else◌}
 use Rattle.std.specs.Option.{is_some}
 use Rattle.std.proofs.lemmas.Bool.Decides.{nat_tests}
 use Rattle.c_lang.specs.Names.{Bytes}
+use Rattle.c_types.specs.Bodies.{body_of}
 use Rattle.c_lang.specs.Trees.{statement_of, statements}
 use Rattle.c_lang.specs.declared.unit.Unit.{Unit}
 use Rattle.c_lang.specs.declared.refusal.Refusal.{Refusal}
@@ -51,23 +52,23 @@ initial_complete outside (shape.Arr zs) h = refl
 initial_complete outside (shape.Fp n None) h = refl
 initial_complete outside (shape.Fp n (Some f)) h = function_complete (Fp n) (meant (found outside f)) h
 
-held_sound : (early : List Refusal) (s : Shape) → wrong_shape early s ≡ None → IsHeld s
-held_sound early (shape.Int z) h = tt
-held_sound early (shape.Arr []) h = some_none (early_number early) h
-held_sound early (shape.Arr (z ∷ zs)) h = tt
-held_sound early (shape.Fp n f) h = narrow_sound (Fp n) h
-
-held_complete : (early : List Refusal) (s : Shape) → IsHeld s → wrong_shape early s ≡ None
-held_complete early (shape.Int z) h = refl
-held_complete early (shape.Arr []) h = absurd h
-held_complete early (shape.Arr (z ∷ zs)) h = refl
-held_complete early (shape.Fp n f) h = narrow_complete (Fp n) h
-
 cells_sound : (room cells : ℕ) → wrong_cells room cells ≡ None → cells ≤ room
 cells_sound room cells h = let e = test_false (nat_lt room cells) 27 h in grind (arith, nat_tests, e)
 
 cells_complete : (room cells : ℕ) → cells ≤ room → wrong_cells room cells ≡ None
 cells_complete room cells h = let e : nat_lt room cells ≡ false = grind (arith, nat_tests, h) in rw e refl
+
+held_sound : (early : List Refusal) (s : Shape) → wrong_shape early s ≡ None → IsHeld s
+held_sound early (shape.Int z) h = tt
+held_sound early (shape.Arr []) h = some_none (early_number early) h
+held_sound early (shape.Arr (z ∷ zs)) h = cells_sound 65536 (length (z ∷ zs)) h
+held_sound early (shape.Fp n f) h = narrow_sound (Fp n) h
+
+held_complete : (early : List Refusal) (s : Shape) → IsHeld s → wrong_shape early s ≡ None
+held_complete early (shape.Int z) h = refl
+held_complete early (shape.Arr []) h = absurd h
+held_complete early (shape.Arr (z ∷ zs)) h = cells_complete 65536 (length (z ∷ zs)) h
+held_complete early (shape.Fp n f) h = narrow_complete (Fp n) h
 
 global_sound : (early : List Refusal) (outside seen : Entries) (room : ℕ) (g : GlobalVar) → wrong_global early outside seen room g ≡ None
     → IsTypedGlobal outside seen room g
@@ -213,12 +214,12 @@ end_complete true false ends h = rw (h refl refl) refl
 end_complete true true ends h = refl
 end_complete false main ends h = refl
 
-func_sound : (again : Option ℕ) (outside : Entries) (effects : Option ℕ) (f : Func) → refusal_of_func again outside effects f ≡ None
-    → (again ≡ None) × IsTypedFunc outside effects f
-func_sound again outside effects f h =
-    let s = scope_of outside effects f.gives in
-    let ss = statements (map statement_of f.body) in
-    let inner = body_scope outside effects f in
+func_sound : (again : Option ℕ) (outside : Entries) (xform : Bool) (f : Func) → refusal_of_func again outside xform f ≡ None
+    → (again ≡ None) × IsTypedFunc outside xform f
+func_sound again outside xform f h =
+    let s = scope_of outside xform f.gives in
+    let ss = body_of f.body in
+    let inner = body_scope outside xform f in
     let p = first_none (at_place (wrong_head again s f) f.pos) (refusal_in inner ss) h in
     let count = wrong_params_count (kinds_of f.params) in
     let q = both_none again (smaller (wrong_params s None f.params) (smaller (wrong_end f) count)) (at_none _ f.pos p.0) in
@@ -236,12 +237,12 @@ func_sound again outside effects f h =
       },
     )
 
-func_complete : (again : Option ℕ) (outside : Entries) (effects : Option ℕ) (f : Func) → again ≡ None → IsTypedFunc outside effects f
-    → refusal_of_func again outside effects f ≡ None
-func_complete again outside effects f a h =
-    let s = scope_of outside effects f.gives in
-    let ss = statements (map statement_of f.body) in
-    let inner = body_scope outside effects f in
+func_complete : (again : Option ℕ) (outside : Entries) (xform : Bool) (f : Func) → again ≡ None → IsTypedFunc outside xform f
+    → refusal_of_func again outside xform f ≡ None
+func_complete again outside xform f a h =
+    let s = scope_of outside xform f.gives in
+    let ss = body_of f.body in
+    let inner = body_scope outside xform f in
     none_first _ _
     (none_at _ f.pos
     (smaller_none _ _ a
@@ -249,20 +250,20 @@ func_complete again outside effects f a h =
     (smaller_none _ _ (end_complete f.gives (is_main f.name) (can_end ss) h.gives) (count_complete (kinds_of f.params) h.few h.narrow)))))
     (none_refused (block_in inner) (entered inner ss) ss h.body)
 
-funcs_sound : (outside : Entries) (effects : Option ℕ) (seen : Entries) (fs : List Func) → refusal_of_funcs outside effects seen fs ≡ None
-    → AreTypedFuncs outside effects seen fs
-funcs_sound outside effects seen [] h = tt
-funcs_sound outside effects seen (f ∷ fs) h =
-    let q = first_none (refusal_of_func (wrong_again seen f.name) outside effects f) (refusal_of_funcs outside effects (with_func seen f) fs) h in
-    let r = func_sound (wrong_again seen f.name) outside effects f q.0 in
-    (again_sound seen f.name r.0, r.1, funcs_sound outside effects (with_func seen f) fs q.1)
+funcs_sound : (outside : Entries) (xform : Bool) (seen : Entries) (fs : List Func) → refusal_of_funcs outside xform seen fs ≡ None
+    → AreTypedFuncs outside xform seen fs
+funcs_sound outside xform seen [] h = tt
+funcs_sound outside xform seen (f ∷ fs) h =
+    let q = first_none (refusal_of_func (wrong_again seen f.name) outside xform f) (refusal_of_funcs outside xform (with_func seen f) fs) h in
+    let r = func_sound (wrong_again seen f.name) outside xform f q.0 in
+    (again_sound seen f.name r.0, r.1, funcs_sound outside xform (with_func seen f) fs q.1)
 
-funcs_complete : (outside : Entries) (effects : Option ℕ) (seen : Entries) (fs : List Func) → AreTypedFuncs outside effects seen fs
-    → refusal_of_funcs outside effects seen fs ≡ None
-funcs_complete outside effects seen [] h = refl
-funcs_complete outside effects seen (f ∷ fs) h =
-    none_first _ _ (func_complete (wrong_again seen f.name) outside effects f (again_complete seen f.name h.0) h.1)
-    (funcs_complete outside effects (with_func seen f) fs h.2)
+funcs_complete : (outside : Entries) (xform : Bool) (seen : Entries) (fs : List Func) → AreTypedFuncs outside xform seen fs
+    → refusal_of_funcs outside xform seen fs ≡ None
+funcs_complete outside xform seen [] h = refl
+funcs_complete outside xform seen (f ∷ fs) h =
+    none_first _ _ (func_complete (wrong_again seen f.name) outside xform f (again_complete seen f.name h.0) h.1)
+    (funcs_complete outside xform (with_func seen f) fs h.2)
 
 -- ---- programs
 
@@ -274,7 +275,7 @@ pub types : (u : Unit) (p : Program) → first_refusal u p ≡ None → Types u 
 types u p h =
     let outside = outside_of p.globals p.funcs in
     let declared = refusal_of_declarations u outside [] p in
-    let bodies = refusal_of_funcs outside None (with_globals [] p.globals) p.funcs in
+    let bodies = refusal_of_funcs outside false (with_globals [] p.globals) p.funcs in
     let a = first_none declared (first bodies (refusal_of_whole u p)) h in
     let b = first_none bodies (refusal_of_whole u p) a.1 in
     let c = first_none (refusal_of_globals p.early outside [] (cell_limit u) p.globals) (refusal_of_protos (with_funcs [] p.funcs) p.protos) a.0 in
@@ -282,7 +283,7 @@ types u p h =
     record {
       globals = globals_sound p.early outside [] (cell_limit u) p.globals c.0;
       protos = protos_sound (with_funcs [] p.funcs) p.protos c.1;
-      funcs = funcs_sound outside None (with_globals [] p.globals) p.funcs b.0;
+      funcs = funcs_sound outside false (with_globals [] p.globals) p.funcs b.0;
       main = test_true (has_main p.funcs) 13 (at_none _ (first_line u) d.0);
       early = early_sound p.early d.1;
     }
@@ -293,7 +294,7 @@ not_refused u p h =
     none_first _ _
     (none_first _ _ (globals_complete p.early outside [] (cell_limit u) p.globals h.globals)
     (protos_complete (with_funcs [] p.funcs) p.protos h.protos))
-    (none_first _ _ (funcs_complete outside None (with_globals [] p.globals) p.funcs h.funcs) (rw (h.main, h.early) refl))
+    (none_first _ _ (funcs_complete outside false (with_globals [] p.globals) p.funcs h.funcs) (rw (h.main, h.early) refl))
 
 -- a program with a refusal isn't typed
 pub refused : (u : Unit) (p : Program) (r : Refusal) → first_refusal u p ≡ Some r → Types u p → ⊥

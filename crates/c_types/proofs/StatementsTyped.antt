@@ -1,5 +1,5 @@
 -- A statement is typed exactly where it has no refusal.
-use Rattle.std.proofs.Common.{◌≡◌, ℕ, nat_lt, Bool, true, false, List, [], ◌∷◌, Option, Some, None, refl, arith, subst}
+use Rattle.std.proofs.Common.{◌&&◌, ◌≡◌, ℕ, nat_lt, Bool, true, false, List, [], ◌∷◌, Option, Some, None, refl, arith, subst}
 use Rattle.std.specs.Prelude.{if◌then◌else◌}
 use Rattle.std.specs.Option.{is_some}
 use Rattle.std.proofs.lemmas.Bool.Decides.{nat_tests}
@@ -15,7 +15,7 @@ use Rattle.c_types.specs.declared.scope.Scope.{Scope}
 use Rattle.c_types.specs.declared.scope.Block.{Block}
 use Rattle.c_types.specs.Names.{Names, found, stands_from, stands_before, smaller, fits}
 use Rattle.c_types.specs.Expressions.{wrong, wrong_row, own_kind}
-use Rattle.c_types.specs.Scopes.{in_scope, names_of, is_another, kind_of_dest, wrong_kind, wrong_fresh, wrong_target, wrong_dest}
+use Rattle.c_types.specs.Scopes.{in_scope, names_of, is_another, kind_of_dest, wrong_kind, wrong_fresh, wrong_target, wrong_dest, wrong_effect, names_version}
 use Rattle.c_types.specs.Checks.{at_place, first}
 use Rattle.c_types.specs.Calls.{place_in, element_kind, ints, wrong_element, wrong_each, wrong_args, wrong_result, wrong_use, wrong_pointer, wrong_call, wrong_call_by, wrong_return}
 use Rattle.c_types.specs.Statements.{scope_after, block_in, entered, after_block, wrong_answer, refusal, refusals}
@@ -33,22 +33,23 @@ pub narrow_complete : (k : Kind) → IsNarrow k → wrong_kind k ≡ None
 narrow_complete Int h = refl
 narrow_complete (Fp n) h = let e : nat_lt 32 n ≡ false = grind (arith, nat_tests, h) in rw e refl
 
-four_tests : (a b c d : Bool)
-    → if◌then◌else◌ {A = Option ℕ} a (Some 7) (if b then Some 8 else if c then Some 7 else if d then Some 8 else None) ≡ None
-    → (a ≡ false) × (b ≡ false) × (c ≡ false) × (d ≡ false)
-four_tests true b c d h = absurd (some_none 7 h)
-four_tests false true c d h = absurd (some_none 8 h)
-four_tests false false true d h = absurd (some_none 7 h)
-four_tests false false false true h = absurd (some_none 8 h)
-four_tests false false false false h = (refl, refl, refl, refl)
+five_tests : (a b c d e : Bool)
+    → if◌then◌else◌ {A = Option ℕ} a (Some 7) (if b then Some 8 else if c then Some 7 else if d then Some 8 else if e then Some 8 else None) ≡ None
+    → (a ≡ false) × (b ≡ false) × (c ≡ false) × (d ≡ false) × (e ≡ false)
+five_tests true b c d e h = absurd (some_none 7 h)
+five_tests false true c d e h = absurd (some_none 8 h)
+five_tests false false true d e h = absurd (some_none 7 h)
+five_tests false false false true e h = absurd (some_none 8 h)
+five_tests false false false false true h = absurd (some_none 8 h)
+five_tests false false false false false h = (refl, refl, refl, refl, refl)
 
 pub fresh_sound : (b : Block) (s : Scope) (k : Kind) (x : Bytes) → wrong_fresh b s k x ≡ None → IsFresh b s k x
 fresh_sound b s k x h =
-    let t = four_tests (stands_from b.base s.locals x) (is_some (in_scope s x)) (is_another (found s.told x) k) (stands_before b.mark s.ahead x) h in
-    record { new = t.0; free = not_some (in_scope s x) t.1; alike = t.2; kept = t.3 }
+    let t = five_tests (stands_from b.base s.locals x) (is_some (in_scope s x)) (is_another (found s.told x) k) (stands_before b.mark s.ahead x) (s.xform && names_version x) h in
+    record { new = t.0; free = not_some (in_scope s x) t.1; alike = t.2; kept = t.3; own = t.4 }
 
 pub fresh_complete : (b : Block) (s : Scope) (k : Kind) (x : Bytes) → IsFresh b s k x → wrong_fresh b s k x ≡ None
-fresh_complete b s k x h = rw (h.new, h.free, h.alike, h.kept) refl
+fresh_complete b s k x h = rw (h.new, h.free, h.alike, h.kept, h.own) refl
 
 target_sound : (m : Means) → wrong_target m ≡ None → IsCell m
 target_sound (Cell k) h = tt
@@ -73,6 +74,9 @@ dest_complete b s Nowhere h = refl
 dest_complete b s (Into x) h = target_complete (names_of s x) h
 dest_complete b s (Fresh k x) h =
     smaller_none (wrong_fresh b s k x) (wrong_kind k) (fresh_complete b s k x h.0) (narrow_complete k h.1)
+
+effect_sound : (s : Scope) → wrong_effect s ≡ None → s.xform ≡ false
+effect_sound s h = test_false s.xform 19 h
 
 -- ---- results and arguments
 
@@ -119,9 +123,9 @@ denied_sound n o h = absurd (some_none n (both_none (Some n) o h).0)
 pointer_sound : (s : Scope) (k : Kind) (d : Dest) (es : List Expression) → wrong_pointer s k d es ≡ None → IsPointerCall s k d es
 pointer_sound s Int d es h = denied_sound 10 (wrong_each (names_of s) es) h
 pointer_sound s (Fp n) d es h =
-    let q = both_none s.effects (smaller (wrong_use s true d) (wrong_args (names_of s) (ints n) es)) h in
+    let q = both_none (wrong_effect s) (smaller (wrong_use s true d) (wrong_args (names_of s) (ints n) es)) h in
     let r = both_none (wrong_use s true d) (wrong_args (names_of s) (ints n) es) q.1 in
-    (q.0, use_sound s true d r.0, args_sound (names_of s) (ints n) es r.1)
+    (effect_sound s q.0, use_sound s true d r.0, args_sound (names_of s) (ints n) es r.1)
 
 pointer_complete : (s : Scope) (k : Kind) (d : Dest) (es : List Expression) → IsPointerCall s k d es → wrong_pointer s k d es ≡ None
 pointer_complete s Int d es h = absurd h
@@ -169,7 +173,7 @@ return_complete names false (Some e) h = absurd h
 
 -- ---- elements and answers
 
-row_kind : (names : Names) (m : Means) (e : Expression) → IsRow m → element_kind names m e ≡ Int
+pub row_kind : (names : Names) (m : Means) (e : Expression) → IsRow m → element_kind names m e ≡ Int
 row_kind names Row e h = refl
 row_kind names (Cell k) e h = absurd h
 row_kind names (Code params gives value denied) e h = absurd h
@@ -191,9 +195,9 @@ element_complete names a i e h =
 
 answer_sound : (b : Block) (s : Scope) (d : Dest) → wrong_answer b s d ≡ None → IsAnswer b s d
 answer_sound b s d h =
-    let q = both_none (wrong_dest b s d) (smaller s.effects (wrong_use s true d)) h in
-    let r = both_none s.effects (wrong_use s true d) q.1 in
-    (dest_sound b s d q.0, r.0, use_sound s true d r.1)
+    let q = both_none (wrong_dest b s d) (smaller (wrong_effect s) (wrong_use s true d)) h in
+    let r = both_none (wrong_effect s) (wrong_use s true d) q.1 in
+    (dest_sound b s d q.0, effect_sound s r.0, use_sound s true d r.1)
 
 answer_complete : (b : Block) (s : Scope) (d : Dest) → IsAnswer b s d → wrong_answer b s d ≡ None
 answer_complete b s d h = rw (dest_complete b s d h.0, h.1, use_complete s true d h.2) refl
@@ -227,8 +231,8 @@ mutual
   typed_statement b s (assert_that p e) h = typed (names_of s) Int e (at_none _ p h)
   typed_statement b s (input p d) h = answer_sound b s d (at_none _ p h)
   typed_statement b s (output p e) h =
-      let q = both_none s.effects (wrong (names_of s) Int e) (at_none _ p h) in (q.0, typed (names_of s) Int e q.1)
-  typed_statement b s (point p k) h = at_none s.effects p h
+      let q = both_none (wrong_effect s) (wrong (names_of s) Int e) (at_none _ p h) in (effect_sound s q.0, typed (names_of s) Int e q.1)
+  typed_statement b s (point p k) h = effect_sound s (at_none _ p h)
   typed_statement b s (choice p d k) h = answer_sound b s d (at_none _ p h)
   typed_statement b s (force p) h = some_none _ h
   typed_statement b s (pick p x y) h = some_none _ h
@@ -257,7 +261,7 @@ mutual
   statement_not_refused b s (assert_that p e) h = none_at _ p (not_wrong (names_of s) Int e h)
   statement_not_refused b s (input p d) h = none_at _ p (answer_complete b s d h)
   statement_not_refused b s (output p e) h = rw (h.0, not_wrong (names_of s) Int e h.1) refl
-  statement_not_refused b s (point p k) h = none_at s.effects p h
+  statement_not_refused b s (point p k) h = none_at _ p (rw h refl)
   statement_not_refused b s (choice p d k) h = none_at _ p (answer_complete b s d h)
   statement_not_refused b s (force p) h = absurd h
   statement_not_refused b s (pick p x y) h = absurd h

@@ -16,7 +16,7 @@ use Rattle.c_types.specs.declared.means.Means.TheVariants.{Cell, Row, Code, Refu
 use Rattle.c_types.specs.declared.scope.Scope.{Scope}
 use Rattle.c_types.specs.Names.{Names, smaller, fits}
 use Rattle.c_types.specs.Expressions.{kind_of, or_int, own_kind, wrong_row, wrong, resolved}
-use Rattle.c_types.specs.Scopes.{names_of, kind_of_dest}
+use Rattle.c_types.specs.Scopes.{names_of, kind_of_dest, wrong_effect}
 
 -- ---- values with a place
 
@@ -86,7 +86,7 @@ ints (suc n) = Int ∷ ints n
 
 abbrev pub wrong_pointer : Scope → Kind → Dest → List Expression → Option ℕ
 wrong_pointer scope Int d es = smaller (Some 10) (wrong_each (names_of scope) es)
-wrong_pointer scope (Fp n) d es = smaller scope.effects (smaller (wrong_use scope true d) (wrong_args (names_of scope) (ints n) es))
+wrong_pointer scope (Fp n) d es = smaller (wrong_effect scope) (smaller (wrong_use scope true d) (wrong_args (names_of scope) (ints n) es))
 
 abbrev pub wrong_call : Scope → Means → Dest → List Expression → Option ℕ
 wrong_call scope (Code params gives value denied) d es =

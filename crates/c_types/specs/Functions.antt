@@ -1,8 +1,10 @@
 -- The typing of functions: the head, then the body.
-use Rattle.std.specs.Prelude.{codes, ℕ, nat_lt, Bool, true, false, not, ◌&&◌, ◌||◌, if◌then◌else◌, List, [], ◌∷◌, length, map, Option, Some, None, bytes_eq}
+use Rattle.std.specs.Prelude.{codes, ℕ, nat_lt, Bool, true, false, not, ◌&&◌, ◌||◌, if◌then◌else◌, List, [], ◌∷◌, length, map, Option, Some, None, Result, bytes_eq}
 use Rattle.c_lang.specs.Names.{Bytes}
+use Rattle.c_types.specs.Bodies.{body_of}
 use Rattle.c_lang.specs.Trees.{statement_of, statements}
 use Rattle.c_lang.specs.declared.refusal.Refusal.{Refusal}
+use Rattle.c_lang.specs.declared.refusal.Fail.{Fail}
 use Rattle.c_lang.specs.declared.stmt.Kind.{Kind}
 use Rattle.c_lang.specs.declared.stmt.Kind.TheVariants.{Int, Fp}
 use Rattle.c_lang.specs.declared.program.Func.{Func}
@@ -12,7 +14,7 @@ use Rattle.c_types.specs.declared.scope.Scope.{Scope}
 use Rattle.c_types.specs.declared.scope.Block.{Block}
 use Rattle.c_types.specs.Names.{Entries, added, smaller}
 use Rattle.c_types.specs.Scopes.{wrong_fresh}
-use Rattle.c_types.specs.Checks.{at_place, first}
+use Rattle.c_types.specs.Checks.{at_place, first, Checked}
 use Rattle.c_types.specs.Endings.{can_end}
 use Rattle.c_types.specs.Statements.{refusal_in, resolved_block}
 
@@ -53,8 +55,8 @@ wrong_params_count ks = if nat_lt 32 (length ks) || any_wide ks then Some 27 els
 -- ---- the head
 
 -- the function's own names, before its parameters are declared
-abbrev pub scope_of : Entries → Option ℕ → Bool → Scope
-scope_of outside effects gives = record { outside = outside; locals = []; told = []; ahead = []; gives = gives; effects = effects }
+abbrev pub scope_of : Entries → Bool → Bool → Scope
+scope_of outside xform gives = record { outside = outside; locals = []; told = []; ahead = []; gives = gives; xform = xform }
 
 abbrev pub with_param : Scope → Kind × Bytes → Scope
 with_param scope p = record scope { locals = added scope.locals p.1 (Cell p.0) }
@@ -77,7 +79,7 @@ is_main x = bytes_eq x (codes "main")
 
 -- 12 for an `int` function other than `main` whose body can end
 abbrev pub wrong_end : Func → Option ℕ
-wrong_end f = if f.gives && not (is_main f.name) && can_end (statements (map statement_of f.body)) then Some 12 else None
+wrong_end f = if f.gives && not (is_main f.name) && can_end (body_of f.body) then Some 12 else None
 
 -- `again` is the number that refuses its name
 abbrev pub wrong_head : Option ℕ → Scope → Func → Option ℕ
@@ -86,14 +88,18 @@ wrong_head again scope f =
 
 -- ---- the whole function
 
-abbrev pub body_scope : Entries → Option ℕ → Func → Scope
-body_scope outside effects f = with_params (scope_of outside effects f.gives) f.params
+abbrev pub body_scope : Entries → Bool → Func → Scope
+body_scope outside xform f = with_params (scope_of outside xform f.gives) f.params
 
-abbrev pub refusal_of_func : Option ℕ → Entries → Option ℕ → Func → Option Refusal
-refusal_of_func again outside effects f =
-    first (at_place (wrong_head again (scope_of outside effects f.gives) f) f.pos)
-    (refusal_in (body_scope outside effects f) (statements (map statement_of f.body)))
+abbrev pub refusal_of_func : Option ℕ → Entries → Bool → Func → Option Refusal
+refusal_of_func again outside xform f =
+    first (at_place (wrong_head again (scope_of outside xform f.gives) f) f.pos)
+    (refusal_in (body_scope outside xform f) (body_of f.body))
 
-abbrev pub resolved_func : Entries → Option ℕ → Func → Func
-resolved_func outside effects f =
-    record f { body = resolved_block (body_scope outside effects f) (statements (map statement_of f.body)) }
+abbrev pub resolved_func : Entries → Bool → Func → Func
+resolved_func outside xform f =
+    record f { body = resolved_block (body_scope outside xform f) (body_of f.body) }
+
+-- what a check answers
+abbrev pub IsFunc : Option ℕ → Entries → Bool → Func → Result Func Fail → Type 0
+IsFunc again outside xform f result = Checked result (refusal_of_func again outside xform f) (resolved_func outside xform f)

@@ -1,3 +1,4 @@
+pub mod Bodies
 pub mod Names
 pub mod Expressions
 pub mod Scopes
@@ -10,3 +11,4 @@ pub mod Programs
 pub mod Kept
 pub mod Typing
 pub mod Types
+pub mod Plain

@@ -1,11 +1,12 @@
 -- The typing of programs: globals, prototypes, then functions, each in source order.
-use Rattle.std.specs.Prelude.{ℕ, ◌-◌, nat_lt, Bool, true, false, not, ◌&&◌, ◌||◌, if◌then◌else◌, List, [], ◌∷◌, length, Option, Some, None}
+use Rattle.std.specs.Prelude.{ℕ, ◌-◌, nat_lt, Bool, true, false, not, ◌&&◌, ◌||◌, if◌then◌else◌, List, [], ◌∷◌, length, Option, Some, None, Result}
 use Rattle.std.specs.Option.{is_some}
 use Rattle.c_lang.specs.Names.{Bytes}
 use Rattle.c_lang.specs.declared.unit.Unit.{Unit}
 use Rattle.c_lang.specs.declared.unit.Unit.TheVariants as unit
 use Rattle.c_lang.specs.declared.unit.Pos.{Pos}
 use Rattle.c_lang.specs.declared.refusal.Refusal.{Refusal}
+use Rattle.c_lang.specs.declared.refusal.Fail.{Fail}
 use Rattle.c_lang.specs.declared.stmt.Kind.{Kind}
 use Rattle.c_lang.specs.declared.stmt.Kind.TheVariants.{Int, Fp}
 use Rattle.c_lang.specs.declared.program.Shape.{Shape}
@@ -19,7 +20,7 @@ use Rattle.c_types.specs.declared.means.Means.TheVariants.{Cell, Row, Code, Refu
 use Rattle.c_types.specs.Names.{Entries, found, meant, added, smaller, same_kind}
 use Rattle.c_types.specs.Expressions.{wrong_function}
 use Rattle.c_types.specs.Scopes.{wrong_kind}
-use Rattle.c_types.specs.Checks.{at_place, first}
+use Rattle.c_types.specs.Checks.{at_place, first, Checked}
 use Rattle.c_types.specs.Functions.{means_of_func, wrong_params_count, is_main, refusal_of_func, resolved_func}
 
 -- ---- what is visible in the whole unit
@@ -59,7 +60,7 @@ wrong_initial outside (shape.Arr zs) = None
 wrong_initial outside (shape.Fp n None) = None
 wrong_initial outside (shape.Fp n (Some f)) = wrong_function (Fp n) (meant (found outside f))
 
--- the first array that has no elements here has the first entry of `early`
+-- the first array that has no elements here is refused by the first entry of `early`
 abbrev pub early_number : List Refusal → ℕ
 early_number [] = 27
 early_number (r ∷ rs) = r.number
@@ -67,7 +68,7 @@ early_number (r ∷ rs) = r.number
 abbrev pub wrong_shape : List Refusal → Shape → Option ℕ
 wrong_shape early (shape.Int z) = None
 wrong_shape early (shape.Arr []) = Some (early_number early)
-wrong_shape early (shape.Arr (z ∷ zs)) = None
+wrong_shape early (shape.Arr (z ∷ zs)) = if nat_lt 65536 (length (z ∷ zs)) then Some 27 else None
 wrong_shape early (shape.Fp n f) = wrong_kind (Fp n)
 
 abbrev pub cells_of : Shape → ℕ
@@ -123,15 +124,19 @@ refusal_of_protos functions (p ∷ ps) = first (at_place (wrong_proto functions 
 
 -- ---- functions
 
-abbrev pub refusal_of_funcs : Entries → Option ℕ → Entries → List Func → Option Refusal
-refusal_of_funcs outside effects seen [] = None
-refusal_of_funcs outside effects seen (f ∷ fs) =
-    first (refusal_of_func (wrong_again seen f.name) outside effects f)
-    (refusal_of_funcs outside effects (with_func seen f) fs)
+abbrev pub refusal_of_funcs : Entries → Bool → Entries → List Func → Option Refusal
+refusal_of_funcs outside xform seen [] = None
+refusal_of_funcs outside xform seen (f ∷ fs) =
+    first (refusal_of_func (wrong_again seen f.name) outside xform f)
+    (refusal_of_funcs outside xform (with_func seen f) fs)
 
-abbrev pub resolved_funcs : Entries → Option ℕ → List Func → List Func
-resolved_funcs outside effects [] = []
-resolved_funcs outside effects (f ∷ fs) = resolved_func outside effects f ∷ resolved_funcs outside effects fs
+abbrev pub resolved_funcs : Entries → Bool → List Func → List Func
+resolved_funcs outside xform [] = []
+resolved_funcs outside xform (f ∷ fs) = resolved_func outside xform f ∷ resolved_funcs outside xform fs
+
+-- what a check answers
+abbrev pub AreFuncs : Entries → Bool → Entries → List Func → Result (List Func) Fail → Type 0
+AreFuncs outside xform seen fs result = Checked result (refusal_of_funcs outside xform seen fs) (resolved_funcs outside xform fs)
 
 abbrev pub is_empty : {X : Type 0} → List X → Bool
 is_empty [] = true
@@ -168,8 +173,8 @@ refusal_of_whole u p = first (at_place (wrong_main p.funcs) (first_line u)) (fir
 abbrev pub first_refusal : Unit → Program → Option Refusal
 first_refusal u p =
     first (refusal_of_declarations u (outside_of p.globals p.funcs) [] p)
-    (first (refusal_of_funcs (outside_of p.globals p.funcs) None (with_globals [] p.globals) p.funcs) (refusal_of_whole u p))
+    (first (refusal_of_funcs (outside_of p.globals p.funcs) false (with_globals [] p.globals) p.funcs) (refusal_of_whole u p))
 
 abbrev pub resolved_program : Program → Program
 resolved_program p =
-    record p { funcs = resolved_funcs (outside_of p.globals p.funcs) None p.funcs; early = [] }
+    record p { funcs = resolved_funcs (outside_of p.globals p.funcs) false p.funcs; early = [] }

@@ -1,6 +1,7 @@
 -- What is in scope, and which declarations of locals are refused.
-use Rattle.std.specs.Prelude.{ℕ, nat_lt, Bool, false, not, if◌then◌else◌, Option, Some, None}
+use Rattle.std.specs.Prelude.{codes, nat_eq, ◌&&◌, ℕ, nat_lt, Bool, false, not, if◌then◌else◌, Option, Some, None, ◌||◌, true}
 use Rattle.std.specs.Option.{is_some, option_or}
+use Rattle.std.specs.List.{starts_with}
 use Rattle.c_lang.specs.Names.{Bytes}
 use Rattle.c_lang.specs.declared.stmt.Kind.{Kind}
 use Rattle.c_lang.specs.declared.stmt.Kind.TheVariants.{Int, Fp}
@@ -28,6 +29,14 @@ abbrev pub wrong_kind : Kind → Option ℕ
 wrong_kind Int = None
 wrong_kind (Fp n) = if nat_lt 32 n then Some 27 else None
 
+-- 19 in a transformer, which only computes
+abbrev pub wrong_effect : Scope → Option ℕ
+wrong_effect scope = if scope.xform then Some 19 else None
+
+-- the name is, in a transformer, that of a version's global or function
+unfoldable pub names_version : Bytes → Bool
+names_version x = starts_with nat_eq x (codes "dsu_old_") || starts_with nat_eq x (codes "dsu_new_")
+
 abbrev pub is_another : Option Means → Kind → Bool
 is_another (Some (Cell j)) k = not (same_kind j k)
 is_another (Some Row) k = false
@@ -37,13 +46,14 @@ is_another None k = false
 
 -- 7 where the block has the local already; 8 where the name is in scope, so that a global, a function, a
 -- parameter or a local of an enclosing block has it; 7 where a block that has ended had it with another
--- kind; 8 where an enclosing block declares it further on
+-- kind; 8 where an enclosing block declares it further on, or a transformer names a version's so
 abbrev pub wrong_fresh : Block → Scope → Kind → Bytes → Option ℕ
 wrong_fresh block scope k x =
     if stands_from block.base scope.locals x then Some 7
     else if is_some (in_scope scope x) then Some 8
     else if is_another (found scope.told x) k then Some 7
     else if stands_before block.mark scope.ahead x then Some 8
+    else if scope.xform && names_version x then Some 8
     else None
 
 abbrev pub with_dest : Entries → Dest → Entries

@@ -1,8 +1,9 @@
 -- The typing of statements: the first refusal of a list, and its resolved form.
-use Rattle.std.specs.Prelude.{ℕ, true, List, [], ◌∷◌, length, Option, Some, None}
+use Rattle.std.specs.Prelude.{ℕ, true, List, [], ◌∷◌, length, Option, Some, None, Result}
 use Rattle.std.specs.Option.{option_map}
 use Rattle.c_lang.specs.Trees.{Statement, Statements, skip, set, set_element, call, call_by, if_else, while_loop, break_loop, return_with, assert_that, input, output, point, choice, force, pick, none, more}
 use Rattle.c_lang.specs.declared.refusal.Refusal.{Refusal}
+use Rattle.c_lang.specs.declared.refusal.Fail.{Fail}
 use Rattle.c_lang.specs.declared.stmt.Dest.{Dest}
 use Rattle.c_lang.specs.declared.stmt.Dest.TheVariants.{Nowhere}
 use Rattle.c_lang.specs.declared.stmt.Kind.TheVariants.{Int}
@@ -12,8 +13,8 @@ use Rattle.c_types.specs.declared.scope.Scope.{Scope}
 use Rattle.c_types.specs.declared.scope.Block.{Block}
 use Rattle.c_types.specs.Names.{Entries, smaller}
 use Rattle.c_types.specs.Expressions.{wrong, resolved}
-use Rattle.c_types.specs.Scopes.{names_of, with_dest, wrong_dest}
-use Rattle.c_types.specs.Checks.{at_place, first}
+use Rattle.c_types.specs.Scopes.{names_of, with_dest, wrong_dest, wrong_effect}
+use Rattle.c_types.specs.Checks.{at_place, first, Checked}
 use Rattle.c_types.specs.Calls.{place_in, element_kind, wrong_element, wrong_use, wrong_call, wrong_call_by, resolved_args, resolved_call, wrong_return}
 
 -- ---- what is in scope behind a statement
@@ -64,7 +65,7 @@ after_block scope ss = record scope { told = told_by_all scope.told ss }
 
 -- an answer or a choice is an int
 abbrev pub wrong_answer : Block → Scope → Dest → Option ℕ
-wrong_answer block scope d = smaller (wrong_dest block scope d) (smaller scope.effects (wrong_use scope true d))
+wrong_answer block scope d = smaller (wrong_dest block scope d) (smaller (wrong_effect scope) (wrong_use scope true d))
 
 abbrev mutual
   pub refusal : Block → Scope → Statement → Option Refusal
@@ -86,8 +87,8 @@ abbrev mutual
   refusal block scope (return_with p e) = at_place (wrong_return (names_of scope) scope.gives e) p
   refusal block scope (assert_that p e) = at_place (wrong (names_of scope) Int e) p
   refusal block scope (input p d) = at_place (wrong_answer block scope d) p
-  refusal block scope (output p e) = at_place (smaller scope.effects (wrong (names_of scope) Int e)) p
-  refusal block scope (point p k) = at_place scope.effects p
+  refusal block scope (output p e) = at_place (smaller (wrong_effect scope) (wrong (names_of scope) Int e)) p
+  refusal block scope (point p k) = at_place (wrong_effect scope) p
   refusal block scope (choice p d k) = at_place (wrong_answer block scope d) p
   refusal block scope (force p) = at_place (Some 21) p
   refusal block scope (pick p a b) = at_place (Some 21) p
@@ -133,3 +134,14 @@ abbrev mutual
 
 abbrev pub resolved_block : Scope → Statements → List Stmt
 resolved_block scope ss = resolved_list (entered scope ss) ss
+
+-- ---- what a check answers
+
+abbrev pub IsStatement : Block → Scope → Statement → Result Stmt Fail → Type 0
+IsStatement block scope s result = Checked result (refusal block scope s) (resolved_statement scope s)
+
+abbrev pub IsSequence : Block → Scope → Statements → Result (List Stmt) Fail → Type 0
+IsSequence block scope ss result = Checked result (refusals block scope ss) (resolved_list scope ss)
+
+abbrev pub IsBody : Scope → Statements → Result (List Stmt) Fail → Type 0
+IsBody scope ss result = Checked result (refusal_in scope ss) (resolved_block scope ss)

@@ -1,6 +1,7 @@
 -- Which functions and programs are typed.
-use Rattle.std.specs.Prelude.{⊤, ◌≡◌, ◌≤◌, ◌-◌, ℕ, true, false, List, [], ◌∷◌, length, map, Option, Some, None, Result, Ok, Err}
+use Rattle.std.specs.Prelude.{⊤, ◌≡◌, ◌≤◌, ◌-◌, ℕ, true, false, List, [], ◌∷◌, length, map, Option, Some, None, Result, Ok, Err, Bool}
 use Rattle.c_lang.specs.Names.{Bytes}
+use Rattle.c_types.specs.Bodies.{body_of}
 use Rattle.c_lang.specs.Trees.{statement_of, statements}
 use Rattle.c_lang.specs.declared.unit.Unit.{Unit}
 use Rattle.c_lang.specs.declared.refusal.Fail.{Fail}
@@ -31,11 +32,11 @@ IsInitial outside (shape.Arr zs) = ⊤
 IsInitial outside (shape.Fp n None) = ⊤
 IsInitial outside (shape.Fp n (Some f)) = IsFunction (Fp n) (meant (found outside f))
 
--- an array has elements, a pointer has at most 32 parameters
+-- an array has 1 to 65,536 elements, a pointer has at most 32 parameters
 abbrev pub IsHeld : Shape → Type 0
 IsHeld (shape.Int z) = ⊤
 IsHeld (shape.Arr []) = ⊥
-IsHeld (shape.Arr (z ∷ zs)) = ⊤
+IsHeld (shape.Arr (z ∷ zs)) = length (z ∷ zs) ≤ 65536
 IsHeld (shape.Fp n f) = IsNarrow (Fp n)
 
 -- `seen` has what is declared before, `room` is how many cells there may still be
@@ -79,18 +80,18 @@ abbrev pub AreParams : Scope → List (Kind × Bytes) → Type 0
 AreParams scope [] = ⊤
 AreParams scope (p ∷ ps) = IsFresh params_block scope p.0 p.1 × AreParams (with_param scope p) ps
 
-pub record IsTypedFunc (outside : Entries) (effects : Option ℕ) (f : Func) : Type 0 where
-  pub params : AreParams (scope_of outside effects f.gives) f.params
+pub record IsTypedFunc (outside : Entries) (xform : Bool) (f : Func) : Type 0 where
+  pub params : AreParams (scope_of outside xform f.gives) f.params
   pub few : length (kinds_of f.params) ≤ 32
   pub narrow : AreNarrow (kinds_of f.params)
   -- only `main` may end without a value that it should give
-  pub gives : f.gives ≡ true → is_main f.name ≡ false → can_end (statements (map statement_of f.body)) ≡ false
-  pub body : AreTyped (block_in (body_scope outside effects f)) (entered (body_scope outside effects f) (statements (map statement_of f.body))) (statements (map statement_of f.body))
+  pub gives : f.gives ≡ true → is_main f.name ≡ false → can_end (body_of f.body) ≡ false
+  pub body : AreTyped (block_in (body_scope outside xform f)) (entered (body_scope outside xform f) (body_of f.body)) (body_of f.body)
 
-abbrev pub AreTypedFuncs : Entries → Option ℕ → Entries → List Func → Type 0
-AreTypedFuncs outside effects seen [] = ⊤
-AreTypedFuncs outside effects seen (f ∷ fs) =
-    (found seen f.name ≡ None) × IsTypedFunc outside effects f × AreTypedFuncs outside effects (with_func seen f) fs
+abbrev pub AreTypedFuncs : Entries → Bool → Entries → List Func → Type 0
+AreTypedFuncs outside xform seen [] = ⊤
+AreTypedFuncs outside xform seen (f ∷ fs) =
+    (found seen f.name ≡ None) × IsTypedFunc outside xform f × AreTypedFuncs outside xform (with_func seen f) fs
 
 -- ---- programs
 
@@ -98,7 +99,7 @@ AreTypedFuncs outside effects seen (f ∷ fs) =
 pub record Types (u : Unit) (p : Program) : Type 0 where
   pub globals : AreTypedGlobals (outside_of p.globals p.funcs) [] (cell_limit u) p.globals
   pub protos : AreTypedProtos (with_funcs [] p.funcs) p.protos
-  pub funcs : AreTypedFuncs (outside_of p.globals p.funcs) None (with_globals [] p.globals) p.funcs
+  pub funcs : AreTypedFuncs (outside_of p.globals p.funcs) false (with_globals [] p.globals) p.funcs
   pub main : has_main p.funcs ≡ true
   pub early : p.early ≡ []
 

@@ -1,5 +1,5 @@
 -- Which expressions and statements are typed.
-use Rattle.std.specs.Prelude.{⊤, ◌≡◌, ◌≤◌, ℤ, pos, Bool, true, false, List, [], ◌∷◌, Option, Some, None}
+use Rattle.std.specs.Prelude.{⊤, ◌≡◌, ◌≤◌, ℤ, pos, Bool, true, false, ◌&&◌, List, [], ◌∷◌, Option, Some, None}
 use Rattle.c_lang.specs.Names.{Bytes}
 use Rattle.c_lang.specs.Trees.{Expression, literal, variable, element, function, null, negation, logical_not, binary, Statement, Statements, skip, set, set_element, call, call_by, if_else, while_loop, break_loop, return_with, assert_that, input, output, point, choice, force, pick, none, more}
 use Rattle.c_lang.specs.declared.stmt.Dest.{Dest}
@@ -12,7 +12,7 @@ use Rattle.c_types.specs.declared.scope.Scope.{Scope}
 use Rattle.c_types.specs.declared.scope.Block.{Block}
 use Rattle.c_types.specs.Names.{Names, found, stands_from, stands_before}
 use Rattle.c_types.specs.Expressions.{place_of}
-use Rattle.c_types.specs.Scopes.{in_scope, names_of, is_another, kind_of_dest}
+use Rattle.c_types.specs.Scopes.{in_scope, names_of, is_another, kind_of_dest, names_version}
 use Rattle.c_types.specs.Calls.{place_in, ints}
 use Rattle.c_types.specs.Statements.{scope_after, block_in, entered, after_block}
 
@@ -75,6 +75,8 @@ pub record IsFresh (block : Block) (scope : Scope) (k : Kind) (x : Bytes) : Type
   pub alike : is_another (found scope.told x) k ≡ false
   -- nor does an enclosing block declare it further on
   pub kept : stands_before block.mark scope.ahead x ≡ false
+  -- nor does a transformer name something of a version so
+  pub own : (scope.xform && names_version x) ≡ false
 
 abbrev pub IsCell : Means → Type 0
 IsCell (Cell k) = ⊤
@@ -107,7 +109,7 @@ AreArguments names (k ∷ ks) (e ∷ es) = IsTyped names k e × AreArguments nam
 
 abbrev pub IsPointerCall : Scope → Kind → Dest → List Expression → Type 0
 IsPointerCall scope Int d es = ⊥
-IsPointerCall scope (Fp n) d es = (scope.effects ≡ None) × IsUse scope true d × AreArguments (names_of scope) (ints n) es
+IsPointerCall scope (Fp n) d es = (scope.xform ≡ false) × IsUse scope true d × AreArguments (names_of scope) (ints n) es
 
 abbrev pub IsCall : Scope → Means → Dest → List Expression → Type 0
 IsCall scope (Code params gives value denied) d es =
@@ -130,7 +132,7 @@ IsReturn names false (Some e) = ⊥
 
 -- an answer or a choice is an int
 abbrev pub IsAnswer : Block → Scope → Dest → Type 0
-IsAnswer block scope d = IsDest block scope d × (scope.effects ≡ None) × IsUse scope true d
+IsAnswer block scope d = IsDest block scope d × (scope.xform ≡ false) × IsUse scope true d
 
 -- ---- statements of a block
 
@@ -151,8 +153,8 @@ abbrev mutual
   IsTypedStatement block scope (return_with p e) = IsReturn (names_of scope) scope.gives e
   IsTypedStatement block scope (assert_that p e) = IsTyped (names_of scope) Int e
   IsTypedStatement block scope (input p d) = IsAnswer block scope d
-  IsTypedStatement block scope (output p e) = (scope.effects ≡ None) × IsTyped (names_of scope) Int e
-  IsTypedStatement block scope (point p k) = scope.effects ≡ None
+  IsTypedStatement block scope (output p e) = (scope.xform ≡ false) × IsTyped (names_of scope) Int e
+  IsTypedStatement block scope (point p k) = scope.xform ≡ false
   IsTypedStatement block scope (choice p d k) = IsAnswer block scope d
   IsTypedStatement block scope (force p) = ⊥
   IsTypedStatement block scope (pick p a b) = ⊥

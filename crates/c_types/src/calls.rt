@@ -12,7 +12,7 @@ ghost use Rattle.c_types.specs.Calls as spec;
 use crate::expressions::{own_kind, wrong, wrong_row};
 use crate::means::{Means, fits, smaller};
 use crate::resolving::resolve;
-use crate::scope::{Scope, copy_dest, kind_of_dest};
+use crate::scope::{Scope, copy_dest, kind_of_dest, wrong_effect};
 use c_lang::{Dest, Expr, Kind, Name, Pos, Stmt};
 use sqlite_items::Items;
 use std::alloc::{AllocError, Global};
@@ -118,7 +118,7 @@ fn wrong_pointer(scope: &Scope, kind: Kind, dest: &Dest, args: &[Expr]) -> Optio
         Kind::Int => smaller(Some(10), wrong_each(scope, args)),
         Kind::Fp(count) => {
             let inside = smaller(wrong_use(scope, true, dest), wrong_ints(scope, count, args));
-            smaller(scope.effects, inside)
+            smaller(wrong_effect(scope), inside)
         }
     }
 }

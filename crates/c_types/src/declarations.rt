@@ -110,7 +110,13 @@ fn wrong_shape(early: &[Refusal], shape: &Shape) -> Option<u8>
         Shape::Int(_) => None,
         Shape::Arr(elements) => match elements.as_slice() {
             [] => Some(early_number(early)),
-            [_z, _zs @ ..] => None,
+            [_z, _zs @ ..] => {
+                if elements.len() > 65_536 {
+                    Some(27)
+                } else {
+                    None
+                }
+            }
         },
         Shape::Fp(n, _) => wrong_kind(Kind::Fp(*n)),
     }

@@ -1,7 +1,8 @@
 //! Whether the end of a list of statements can be reached. It takes no memory.
 
 ghost use Rattle.std.specs.Prelude.{◌≡◌, map};
-ghost use Rattle.c_lang.specs.Trees.{expression_of, statement_of, statements};
+ghost use Rattle.c_lang.specs.Trees.{expression_of, statement_of};
+ghost use Rattle.c_types.specs.Bodies.{body_of};
 ghost use Rattle.c_types.specs.Endings as spec;
 
 use c_lang::{Expr, Stmt};
@@ -28,7 +29,7 @@ fn breaks(s: &Stmt) -> bool
 
 #[cycle(breaks)]
 fn any_breaks(stmts: &[Stmt]) -> bool
-    ensures { result ≡ spec.any_breaks (statements (map statement_of stmts.now)) }
+    ensures { result ≡ spec.any_breaks (body_of stmts.now) }
 {
     for s in stmts {
         if breaks(s) {
@@ -53,7 +54,7 @@ fn ends(s: &Stmt) -> bool
 /// Whether the end of these statements can be reached.
 #[cycle(ends)]
 pub fn can_end(stmts: &[Stmt]) -> bool
-    ensures { result ≡ spec.can_end (statements (map statement_of stmts.now)) }
+    ensures { result ≡ spec.can_end (body_of stmts.now) }
 {
     for s in stmts {
         if !ends(s) {

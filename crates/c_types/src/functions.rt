@@ -151,7 +151,7 @@ fn add_head(
 }
 
 fn enter(scope: &mut Scope, gives: bool)
-    ensures { scope.new ≡ spec.scope_of scope.old.outside scope.old.effects gives }
+    ensures { scope.new ≡ spec.scope_of scope.old.outside scope.old.xform gives }
 {
     scope.locals.truncate(0);
     scope.told.truncate(0);
@@ -177,9 +177,9 @@ pub fn check_func(
     again: Option<u8>,
     f: &Func,
 ) -> Result<Func, Fail>
-    ensures checked { Checked result (spec.refusal_of_func again scope.old.outside scope.old.effects f.now) (spec.resolved_func scope.old.outside scope.old.effects f.now) }
+    ensures checked { spec.IsFunc again scope.old.outside scope.old.xform f.now result }
     ensures outside { OnOk result (scope.new.outside ≡ scope.old.outside) }
-    ensures effects { OnOk result (scope.new.effects ≡ scope.old.effects) }
+    ensures xform { OnOk result (scope.new.xform ≡ scope.old.xform) }
 {
     enter(scope, f.gives);
     let number = add_head(alloc, scope, again, f)?;

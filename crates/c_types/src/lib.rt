@@ -7,6 +7,7 @@ pub mod declarations;
 pub mod endings;
 pub mod expressions;
 pub mod functions;
+pub mod laws;
 pub mod means;
 pub mod programs;
 pub mod resolving;

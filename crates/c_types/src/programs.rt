@@ -1,6 +1,6 @@
 //! Whole programs: globals, prototypes, functions, then what the program as a whole must have.
 
-ghost use Rattle.std.specs.Prelude.{◌≡◌, IfOk, OnOk, None};
+ghost use Rattle.std.specs.Prelude.{◌≡◌, IfOk, OnOk, false};
 ghost use Rattle.c_types.specs.Checks.{Checked};
 ghost use Rattle.c_types.specs.Programs as spec;
 
@@ -23,7 +23,7 @@ pub fn check_funcs(
     seen: &mut Symbols,
     funcs: &[Func],
 ) -> Result<Items<Func>, Fail>
-    ensures { Checked result (spec.refusal_of_funcs scope.old.outside scope.old.effects seen.old funcs.now) (spec.resolved_funcs scope.old.outside scope.old.effects funcs.now) }
+    ensures { spec.AreFuncs scope.old.outside scope.old.xform seen.old funcs.now result }
 {
     let mut all = Items::new(alloc);
     for f in funcs {
@@ -72,7 +72,7 @@ fn check_bodies(
     seen: &mut Symbols,
     funcs: &[Func],
 ) -> Result<Items<Func>, Fail>
-    ensures { Checked result (spec.refusal_of_funcs outside None seen.old funcs.now) (spec.resolved_funcs outside None funcs.now) }
+    ensures { spec.AreFuncs outside false seen.old funcs.now result }
 {
     let mut scope = Scope {
         outside,
@@ -80,7 +80,7 @@ fn check_bodies(
         told: Symbols::new(alloc),
         ahead: Symbols::new(alloc),
         gives: false,
-        effects: None,
+        xform: false,
     };
     check_funcs(alloc, &mut scope, seen, funcs)
 }
@@ -138,7 +138,7 @@ fn check_declarations(
 }
 
 fn check_all(alloc: Global, unit: Unit, program: &Program) -> Result<Items<Func>, Fail>
-    ensures { Checked result (spec.first_refusal unit program.now) (spec.resolved_funcs (spec.outside_of program.now.globals program.now.funcs) None program.now.funcs) }
+    ensures { Checked result (spec.first_refusal unit program.now) (spec.resolved_funcs (spec.outside_of program.now.globals program.now.funcs) false program.now.funcs) }
 {
     let outside = outside_of(alloc, program.globals.as_slice(), program.funcs.as_slice())?;
     let mut seen = Symbols::new(alloc);

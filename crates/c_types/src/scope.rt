@@ -23,8 +23,9 @@ pub struct Scope {
     pub ahead: Symbols,
     /// Whether the function gives a value.
     pub gives: bool,
-    /// The number that refuses inputs, outputs, points and calls through pointers.
-    pub effects: Option<u8>,
+    /// Whether the function is a transformer's. It then has no input, output or point and calls
+    /// nothing through a pointer, and no local's name begins with `dsu_old_` or `dsu_new_`.
+    pub xform: bool,
 }
 
 /// Where the names of a block begin in `locals`, and in `ahead`.
@@ -56,6 +57,21 @@ pub fn wrong_kind(kind: Kind) -> Option<u8>
     }
 }
 
+/// 19 in a transformer, which only computes.
+pub fn wrong_effect(scope: &Scope) -> Option<u8>
+    ensures { result ≡ spec.wrong_effect scope.now }
+{
+    if scope.xform { Some(19) } else { None }
+}
+
+#[tactic(auto, unfolding(crate::specs::Scopes::names_version))]
+fn names_version(name: &Name) -> bool
+    ensures { result ≡ spec.names_version name.now }
+{
+    let name = name.as_bytes();
+    name.starts_with(b"dsu_old_") || name.starts_with(b"dsu_new_")
+}
+
 fn is_another(told: Option<&Means>, kind: Kind) -> bool
     ensures { result ≡ spec.is_another (option_copied told.entry) kind }
 {
@@ -76,6 +92,8 @@ pub fn wrong_fresh(scope: &Scope, block: Block, kind: Kind, name: &Name) -> Opti
     } else if is_another(scope.told.find(name), kind) {
         Some(7)
     } else if scope.ahead.stands_before(block.mark, name) {
+        Some(8)
+    } else if scope.xform && names_version(name) {
         Some(8)
     } else {
         None

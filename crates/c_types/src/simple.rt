@@ -3,12 +3,13 @@
 ghost use Rattle.std.specs.Prelude.{◌≡◌, OnOk, map};
 ghost use Rattle.std.specs.Option.{option_map};
 ghost use Rattle.c_lang.specs.Trees as tree;
+ghost use Rattle.c_lang.specs.Trees.{expression_of};
 ghost use Rattle.c_lang.specs.declared.stmt.Kind.TheVariants.{Int};
 ghost use Rattle.c_types.specs.Calls as calls;
 ghost use Rattle.c_types.specs.Checks.{Checked, Stops, at_place};
 ghost use Rattle.c_types.specs.Expressions as expression;
 ghost use Rattle.c_types.specs.Names as names;
-ghost use Rattle.c_types.specs.Scopes.{declared, names_of};
+ghost use Rattle.c_types.specs.Scopes.{declared, names_of, wrong_effect};
 ghost use Rattle.c_types.specs.Statements as spec;
 
 use crate::calls::{
@@ -18,7 +19,7 @@ use crate::calls::{
 use crate::expressions::wrong;
 use crate::means::smaller;
 use crate::resolving::resolve;
-use crate::scope::{Block, Scope, copy_dest, declare, wrong_dest};
+use crate::scope::{Block, Scope, copy_dest, declare, wrong_dest, wrong_effect};
 use c_lang::{Dest, Expr, Fail, Kind, Name, Pos, Refusal, Stmt};
 use std::alloc::Global;
 
@@ -38,7 +39,7 @@ pub fn stop(number: Option<u8>, pos: Pos) -> Result<(), Fail>
 
 /// An int that is looked at by itself.
 pub fn int(alloc: Global, scope: &Scope, pos: Pos, e: &Expr) -> Result<Expr, Fail>
-    ensures { Checked result (at_place (expression.wrong (names_of scope.now) Int (tree.expression_of e.now)) pos) (expression.resolved (names_of scope.now) Int (tree.expression_of e.now)) }
+    ensures { Checked result (at_place (expression.wrong (names_of scope.now) Int (expression_of e.now)) pos) (expression.resolved (names_of scope.now) Int (expression_of e.now)) }
 {
     stop(wrong(scope, Kind::Int, e), pos)?;
     Ok(resolve(alloc, scope, Kind::Int, e)?)
@@ -53,8 +54,8 @@ pub fn set(
     dest: &Dest,
     value: &Expr,
 ) -> Result<Stmt, Fail>
-    ensures checked { Checked result (spec.refusal block scope.old (tree.set pos dest.now (tree.expression_of value.now))) (spec.resolved_statement scope.old (tree.set pos dest.now (tree.expression_of value.now))) }
-    ensures scope { OnOk result (scope.new ≡ spec.scope_after scope.old (tree.set pos dest.now (tree.expression_of value.now))) }
+    ensures checked { spec.IsStatement block scope.old (tree.set pos dest.now (expression_of value.now)) result }
+    ensures scope { OnOk result (scope.new ≡ spec.scope_after scope.old (tree.set pos dest.now (expression_of value.now))) }
 {
     let place = place_in(scope, dest, value);
     let number = smaller(wrong_dest(scope, block, dest), wrong(scope, place, value));
@@ -74,7 +75,7 @@ pub fn set_element(
     index: &Expr,
     value: &Expr,
 ) -> Result<Stmt, Fail>
-    ensures { Checked result (at_place (calls.wrong_element (names_of scope.now) array.now (tree.expression_of index.now) (tree.expression_of value.now)) pos) (spec.resolved_statement scope.now (tree.set_element pos array.now (tree.expression_of index.now) (tree.expression_of value.now))) }
+    ensures { spec.IsStatement (spec.block_in scope.now) scope.now (tree.set_element pos array.now (expression_of index.now) (expression_of value.now)) result }
 {
     stop(wrong_element(scope, array, index, value), pos)?;
     let kind = element_kind(scope, scope.look(array), value);
@@ -99,8 +100,8 @@ pub fn call(
     callee: &Name,
     args: &[Expr],
 ) -> Result<Stmt, Fail>
-    ensures checked { Checked result (spec.refusal block scope.old (tree.call pos dest.now callee.now (map tree.expression_of args.now))) (spec.resolved_statement scope.old (tree.call pos dest.now callee.now (map tree.expression_of args.now))) }
-    ensures scope { OnOk result (scope.new ≡ spec.scope_after scope.old (tree.call pos dest.now callee.now (map tree.expression_of args.now))) }
+    ensures checked { spec.IsStatement block scope.old (tree.call pos dest.now callee.now (map expression_of args.now)) result }
+    ensures scope { OnOk result (scope.new ≡ spec.scope_after scope.old (tree.call pos dest.now callee.now (map expression_of args.now))) }
 {
     let inside = wrong_call(scope, scope.look(callee), dest, args);
     stop(smaller(wrong_dest(scope, block, dest), inside), pos)?;
@@ -119,8 +120,8 @@ pub fn call_by(
     pointer: &Name,
     args: &[Expr],
 ) -> Result<Stmt, Fail>
-    ensures checked { Checked result (spec.refusal block scope.old (tree.call_by pos dest.now pointer.now (map tree.expression_of args.now))) (spec.resolved_statement scope.old (tree.call_by pos dest.now pointer.now (map tree.expression_of args.now))) }
-    ensures scope { OnOk result (scope.new ≡ spec.scope_after scope.old (tree.call_by pos dest.now pointer.now (map tree.expression_of args.now))) }
+    ensures checked { spec.IsStatement block scope.old (tree.call_by pos dest.now pointer.now (map expression_of args.now)) result }
+    ensures scope { OnOk result (scope.new ≡ spec.scope_after scope.old (tree.call_by pos dest.now pointer.now (map expression_of args.now))) }
 {
     let inside = wrong_call_by(scope, scope.look(pointer), dest, args);
     stop(smaller(wrong_dest(scope, block, dest), inside), pos)?;
@@ -139,7 +140,7 @@ pub fn call_by(
 fn wrong_answer(scope: &Scope, block: Block, dest: &Dest) -> Option<u8>
     ensures { result ≡ spec.wrong_answer block scope.now dest.now }
 {
-    let inside = smaller(scope.effects, wrong_use(scope, true, dest));
+    let inside = smaller(wrong_effect(scope), wrong_use(scope, true, dest));
     smaller(wrong_dest(scope, block, dest), inside)
 }
 
@@ -161,9 +162,9 @@ pub fn answer(
 
 /// An output.
 pub fn output(alloc: Global, scope: &Scope, pos: Pos, e: &Expr) -> Result<Expr, Fail>
-    ensures { Checked result (at_place (names.smaller scope.now.effects (expression.wrong (names_of scope.now) Int (tree.expression_of e.now))) pos) (expression.resolved (names_of scope.now) Int (tree.expression_of e.now)) }
+    ensures { Checked result (at_place (names.smaller (wrong_effect scope.now) (expression.wrong (names_of scope.now) Int (expression_of e.now))) pos) (expression.resolved (names_of scope.now) Int (expression_of e.now)) }
 {
-    stop(smaller(scope.effects, wrong(scope, Kind::Int, e)), pos)?;
+    stop(smaller(wrong_effect(scope), wrong(scope, Kind::Int, e)), pos)?;
     Ok(resolve(alloc, scope, Kind::Int, e)?)
 }
 
@@ -174,7 +175,7 @@ pub fn return_with(
     pos: Pos,
     value: &Option<Expr>,
 ) -> Result<Stmt, Fail>
-    ensures { Checked result (at_place (calls.wrong_return (names_of scope.now) scope.now.gives (option_map tree.expression_of value.now)) pos) (spec.resolved_statement scope.now (tree.return_with pos (option_map tree.expression_of value.now))) }
+    ensures { spec.IsStatement (spec.block_in scope.now) scope.now (tree.return_with pos (option_map expression_of value.now)) result }
 {
     stop(wrong_return(scope, scope.gives, value), pos)?;
     let value = resolve_value(alloc, scope, value)?;

@@ -1,12 +1,13 @@
 //! Statements and blocks. After an error the scope is that of some statement of the function.
 
 ghost use Rattle.std.specs.Prelude.{◌≡◌, OnOk, map};
-ghost use Rattle.c_lang.specs.Trees.{statement_of, statements};
+ghost use Rattle.c_lang.specs.Trees.{statement_of};
+ghost use Rattle.c_types.specs.Bodies.{body_of};
 ghost use Rattle.c_types.specs.Checks.{Checked};
 ghost use Rattle.c_types.specs.Scopes.{with_dest};
 ghost use Rattle.c_types.specs.Statements as spec;
 
-use crate::scope::{Block, Scope, add_dest};
+use crate::scope::{Block, Scope, add_dest, wrong_effect};
 use crate::simple::{answer, call, call_by, int, output, return_with, set, set_element, stop};
 use crate::symbols::Symbols;
 use c_lang::{Fail, Stmt};
@@ -38,7 +39,7 @@ fn add_local(alloc: Global, symbols: &mut Symbols, s: &Stmt) -> Result<(), Alloc
 }
 
 fn add_locals(alloc: Global, symbols: &mut Symbols, stmts: &[Stmt]) -> Result<(), AllocError>
-    ensures { OnOk result (symbols.new ≡ spec.with_locals symbols.old (statements (map statement_of stmts.now))) }
+    ensures { OnOk result (symbols.new ≡ spec.with_locals symbols.old (body_of stmts.now)) }
 {
     for s in stmts {
         add_local(alloc, symbols, s)?;
@@ -50,7 +51,7 @@ fn add_locals(alloc: Global, symbols: &mut Symbols, stmts: &[Stmt]) -> Result<()
 /// scope.
 #[cycle(statement)]
 pub fn statement(alloc: Global, scope: &mut Scope, block: Block, s: &Stmt) -> Result<Stmt, Fail>
-    ensures checked { Checked result (spec.refusal block scope.old (statement_of s.now)) (spec.resolved_statement scope.old (statement_of s.now)) }
+    ensures checked { spec.IsStatement block scope.old (statement_of s.now) result }
     ensures scope { OnOk result (scope.new ≡ spec.scope_after scope.old (statement_of s.now)) }
 {
     match s {
@@ -109,7 +110,7 @@ pub fn statement(alloc: Global, scope: &mut Scope, block: Block, s: &Stmt) -> Re
             value: output(alloc, scope, *pos, value)?,
         }),
         Stmt::Point { pos, k } => {
-            stop(scope.effects, *pos)?;
+            stop(wrong_effect(scope), *pos)?;
             Ok(Stmt::Point { pos: *pos, k: *k })
         }
         Stmt::Choice { pos, dest, k } => Ok(Stmt::Choice {
@@ -135,8 +136,8 @@ fn sequence(
     block: Block,
     stmts: &[Stmt],
 ) -> Result<Items<Stmt>, Fail>
-    ensures checked { Checked result (spec.refusals block scope.old (statements (map statement_of stmts.now))) (spec.resolved_list scope.old (statements (map statement_of stmts.now))) }
-    ensures scope { OnOk result (scope.new ≡ spec.scope_after_all scope.old (statements (map statement_of stmts.now))) }
+    ensures checked { spec.IsSequence block scope.old (body_of stmts.now) result }
+    ensures scope { OnOk result (scope.new ≡ spec.scope_after_all scope.old (body_of stmts.now)) }
 {
     let mut all = Items::new(alloc);
     for s in stmts {
@@ -149,8 +150,8 @@ fn sequence(
 /// block's locals leave the scope at its end.
 #[cycle(statement)]
 pub fn body(alloc: Global, scope: &mut Scope, stmts: &[Stmt]) -> Result<Items<Stmt>, Fail>
-    ensures checked { Checked result (spec.refusal_in scope.old (statements (map statement_of stmts.now))) (spec.resolved_block scope.old (statements (map statement_of stmts.now))) }
-    ensures scope { OnOk result (scope.new ≡ spec.after_block scope.old (statements (map statement_of stmts.now))) }
+    ensures checked { spec.IsBody scope.old (body_of stmts.now) result }
+    ensures scope { OnOk result (scope.new ≡ spec.after_block scope.old (body_of stmts.now)) }
 {
     let block = Block {
         base: scope.locals.len(),

@@ -1,10 +1,11 @@
 use Rattle.std.proofs.Common.{map}
+use Rattle.c_types.specs.Bodies.{body_of}
 use Rattle.c_lang.specs.Trees.{statement_of, statements}
 use Rattle.c_types.proofs.BlockLaws.{block_left}
 use Rattle.c_types.proofs.statements.+statement.Goals as goal
 
 pub body-returns-clause-scope : goal.body-returns-clause-scope
 body-returns-clause-scope t c =
-    block_left c.args.scope.now c.sequence.new.scope (statements (map statement_of c.args.stmts.now)) c.len.result c.len-2.result c.truncate.new.self
+    block_left c.args.scope.now c.sequence.new.scope (body_of c.args.stmts.now) c.len.result c.len-2.result c.truncate.new.self
     c.truncate-2.new.self c.len.ensures c.len-2.ensures (rw (← c.in_ok-add_locals.ensures) c.in_ok-all.ensures.scope) c.truncate.ensures
     c.truncate-2.ensures

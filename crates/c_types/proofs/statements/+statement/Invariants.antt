@@ -1,14 +1,15 @@
 use Rattle.std.proofs.Common.{◌≡◌, ◌++◌, drop, map}
+use Rattle.c_types.specs.Bodies.{body_of}
 use Rattle.c_lang.specs.Trees.{statement_of, statements}
 use Rattle.c_types.specs.Statements as spec
 use Rattle.c_types.proofs.statements.+statement.Given as goal
 
 abbrev pub invariant-sequence-loop-s : goal.invariant-sequence-loop-s
 invariant-sequence-loop-s l = record {
-  first : spec.refusals l.block l.scope (statements (map statement_of (drop l.s-index l.stmts)))
-      ≡ spec.refusals l.block l.initial.scope (statements (map statement_of l.stmts));
-  whole : l.all ++ spec.resolved_list l.scope (statements (map statement_of (drop l.s-index l.stmts)))
-      ≡ spec.resolved_list l.initial.scope (statements (map statement_of l.stmts));
-  scope : spec.scope_after_all l.scope (statements (map statement_of (drop l.s-index l.stmts)))
-      ≡ spec.scope_after_all l.initial.scope (statements (map statement_of l.stmts));
+  first : spec.refusals l.block l.scope (body_of (drop l.s-index l.stmts))
+      ≡ spec.refusals l.block l.initial.scope (body_of l.stmts);
+  whole : l.all ++ spec.resolved_list l.scope (body_of (drop l.s-index l.stmts))
+      ≡ spec.resolved_list l.initial.scope (body_of l.stmts);
+  scope : spec.scope_after_all l.scope (body_of (drop l.s-index l.stmts))
+      ≡ spec.scope_after_all l.initial.scope (body_of l.stmts);
 }
