@@ -1,5 +1,5 @@
 -- What a machine stands for.
-use Rattle.std.specs.Prelude.{◌≡◌, ℤ, Bool, true, false, List, Result}
+use Rattle.std.specs.Prelude.{ℤ, Bool, true, false, List, Result}
 use Rattle.c_lang.specs.Evaluation.{Look}
 use Rattle.c_lang.specs.Moves.{Move}
 use Rattle.c_lang.specs.Names.{Bytes}

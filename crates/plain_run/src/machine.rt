@@ -20,8 +20,8 @@ use std::mem;
 // The frames that a run may have.
 const MOST_FRAMES: usize = 10_000;
 
-/// A run of a program. Contracts see its configuration as `config_of`, and the program as
-/// `program_of`.
+/// A run of a program that knows no update. Contracts see its configuration as `config_of`, and the
+/// program as `program_of`.
 #[derive(Drop)]
 pub struct Machine<'p> {
     program: IndexedProgram<'p>,
@@ -279,7 +279,12 @@ impl<'p> Machine<'p> {
         }
     }
 
-    /// Makes a step.
+    /// Makes the next step of the run.
+    ///
+    /// `Step::Waiting` comes exactly where the statement takes an answer and none is left,
+    /// `Step::Stopped` exactly where the run is over; then nothing changes. `RunError::Deep` comes
+    /// exactly where the step would make one frame more than 10,000. After an error the machine and
+    /// the answers are as before.
     pub fn step(&mut self, alloc: Global, answers: &mut Answers) -> Result<Step, RunError>
         ensures made { IfOk result (λ shown. Makes (step (program_of self.old) (config_of self.old)) (config_of self.old) answers.old shown (config_of self.new) answers.new) }
         ensures depth { frame_count (config_of self.new) ≤ 10000 }

@@ -12,10 +12,10 @@ use Rattle.plain_run.specs.declared.step.Step.TheVariants.{Quiet, Shown, Waiting
 use Rattle.run_replay.specs.After.{IsAfter}
 use Rattle.run_replay.specs.Closes.{IsClose, ShowsItsEnd}
 use Rattle.run_replay.specs.Reached.{after_move}
-use Rattle.run_replay.specs.Replays.{reached_plain, IsPlainClose, StaysShallow, GetsDeep}
+use Rattle.run_replay.specs.Replays.{reached_plain, IsPlainClose, GetsDeep}
 use Rattle.run_replay.specs.declared.replay.Close.{Close}
 use Rattle.run_replay.proofs.EndLaws.{step_shows}
-use Rattle.run_replay.proofs.ReachedLaws.{after_stuck, IsStill, IsStuck, IsMade, made, shown_by, shown_of, reached-next, events-next}
+use Rattle.run_replay.proofs.ReachedLaws.{after_stuck, IsStill, made, shown_by, shown_of, reached-next, events-next}
 
 module _ (P : Program) (a : List ℤ) (n : ℕ) (m : Machine) (b : List ℤ) (so_far : List Event) (is : IsAfter P a n m b so_far) where
   abbrev c : PlainConfig
@@ -110,6 +110,10 @@ at_start m a es is none = record {
   shallow = λ k high. let zero_steps : k ≡ 0 = omega arith in one_frame (program_of m) a k zero_steps;
   last = subst (λ c. ShowsItsEnd c es) (sym is) tt;
 }
+
+-- the program and the answers by other words
+pub after_for : {P Q : Program} {a e : List ℤ} {n : ℕ} {m : Machine} {b : List ℤ} {so_far : List Event} → P ≡ Q → a ≡ e → IsAfter P a n m b so_far → IsAfter Q e n m b so_far
+after_for {P} {Q} {a} {e} {n} {m} {b} {so_far} p q is = subst (λ x. IsAfter Q x n m b so_far) q (subst (λ R. IsAfter R a n m b so_far) p is)
 
 -- how the run stands, by how the machine stands
 pub closes : (P : Program) (a : List ℤ) (n : ℕ) (m : Machine) (b : List ℤ) (so_far : List Event) (close : Close) → IsAfter P a n m b so_far

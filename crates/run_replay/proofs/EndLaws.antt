@@ -11,7 +11,7 @@ use Rattle.plain_run.specs.Runs.{Makes}
 use Rattle.plain_run.specs.declared.step.Step.{Step}
 use Rattle.plain_run.specs.declared.step.Step.TheVariants.{Quiet, Shown, Waiting, Stopped}
 use Rattle.run_replay.specs.Closes.{EndsWith, ShowsItsEnd}
-use Rattle.run_replay.proofs.MoveLaws.{IsLive, IsOver, Follows, EndsRightly, step_ends}
+use Rattle.run_replay.proofs.MoveLaws.{IsLive, Follows, EndsRightly, step_ends}
 use Rattle.run_replay.proofs.ReachedLaws.{shown_of}
 
 module _ {F G O : Type 0} where

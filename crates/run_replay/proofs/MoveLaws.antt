@@ -1,6 +1,6 @@
 -- Where a move comes to an end: exactly there it shows an end or a fault. This holds for each machine whose
 -- further statements come to no end.
-use Rattle.std.proofs.Common.{◌≡◌, ℤ, pos, Bool, true, false, if◌then◌else◌, List, [], ◌∷◌, map, Option, Some, None, Result, Ok, Err}
+use Rattle.std.proofs.Common.{ℤ, pos, Bool, true, false, if◌then◌else◌, List, [], ◌∷◌, Option, Some, None, Result, Ok, Err}
 use Rattle.c_lang.specs.Moves.{Move, Goes, Asks, Rests}
 use Rattle.c_lang.specs.Names.{Bytes}
 use Rattle.c_lang.specs.Steps as steps
@@ -9,7 +9,6 @@ use Rattle.c_lang.specs.Values.{Value, Num, Code, Null, number, is_zero}
 use Rattle.c_lang.specs.declared.event.Event.{Event}
 use Rattle.c_lang.specs.declared.event.Event.TheVariants as event
 use Rattle.c_lang.specs.declared.event.Trap.{Trap}
-use Rattle.c_lang.specs.declared.event.Trap.TheVariants as trap
 use Rattle.c_lang.specs.declared.stmt.Dest.{Dest}
 use Rattle.c_lang.specs.declared.stmt.Dest.TheVariants.{Nowhere, Into, Fresh}
 use Rattle.c_lang.specs.declared.stmt.Stmt.{Stmt, out-Stmt}

@@ -1,5 +1,5 @@
 -- One step more of a run.
-use Rattle.std.proofs.Common.{◌≡◌, ℕ, zero, suc, ◌+◌, ℤ, List, [], ◌∷◌, ◌++◌, Result, Ok, Err, refl, sym, ap, ap₂, ◌∙◌, subst, append_assoc, append-nil, arith}
+use Rattle.std.proofs.Common.{◌≡◌, ℕ, zero, suc, ℤ, List, [], ◌∷◌, ◌++◌, refl, sym, ap, ap₂, ◌∙◌, subst, append_assoc, append-nil}
 use Rattle.c_lang.specs.Moves.{Move, Goes, Asks, Rests, follow, events_of}
 use Rattle.c_lang.specs.declared.event.Event.{Event}
 use Rattle.plain_run.specs.Runs.{Makes}

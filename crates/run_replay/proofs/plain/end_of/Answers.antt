@@ -1,4 +1,4 @@
-use Rattle.std.proofs.Common.{sym, ap, subst, ◌∙◌, List, [], ◌∷◌, ◌++◌}
+use Rattle.std.proofs.Common.{sym, ap, subst, ◌∙◌, [], ◌∷◌, ◌++◌}
 use Rattle.run_replay.specs.Closes.{IsEnd}
 use Rattle.run_replay.proofs.EndLaws.{last_is}
 use Rattle.run_replay.proofs.plain.end_of.Goals as goal

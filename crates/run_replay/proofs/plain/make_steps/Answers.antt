@@ -1,10 +1,7 @@
-use Rattle.std.proofs.Common.{◌+◌, List, Vec, Global, [], ◌∷◌, ◌++◌, sym, ap, ◌∙◌, subst, inl, inr, append-nil, arith}
-use Rattle.c_lang.specs.PlainRun.{step}
+use Rattle.std.proofs.Common.{◌+◌, Vec, Global, ◌++◌, sym, ap, ◌∙◌, subst, inl, inr, append-nil, arith}
 use Rattle.c_lang.specs.declared.event.Event.{Event}
-use Rattle.plain_run.specs.Machines.{config_of, program_of}
+use Rattle.plain_run.specs.Machines.{program_of}
 use Rattle.plain_run.specs.declared.step.RunError.TheVariants.{Deep}
-use Rattle.plain_run.specs.Runs.{Makes}
-use Rattle.plain_run.specs.declared.step.Step.TheVariants.{Quiet, Shown, Waiting, Stopped}
 use Rattle.run_replay.specs.After.{IsAfter}
 use Rattle.run_replay.proofs.AfterLaws.{after_step, after_still, gets_deep, IsErrOf-other}
 use Rattle.run_replay.proofs.ReachedLaws.{IsStill, shown_of}
