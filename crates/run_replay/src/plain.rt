@@ -1,8 +1,8 @@
 //! Runs of a program that knows no update.
 
 ghost use Rattle.std.specs.Prelude.{◌≡◌, List, [], ◌∷◌, ◌++◌, ℕ, ◌≤◌, IfOk, OnOk, IsErrOf};
-ghost use Rattle.c_lang.specs.PlainRun.{events, step};
-ghost use Rattle.plain_run.specs.Machines.{config_of, program_of};
+ghost use Rattle.c_lang.specs.PlainRun.{events};
+ghost use Rattle.plain_run.specs.Machines.{config_of, move_of, program_of};
 ghost use Rattle.run_replay.specs.Closes.{EndsWith, IsClose, IsEnd, IsLast, ShowsItsEnd};
 ghost use Rattle.c_lang.specs.declared.event.Event.{Event};
 ghost use Rattle.run_replay.specs.After.{IsAfter};
@@ -44,7 +44,7 @@ fn close_of(
     events: &[Event],
 ) -> Result<Close, AllocError>
     requires { ShowsItsEnd (config_of machine.old) events.now }
-    ensures { IfOk result (λ close. IsClose (step (program_of machine.old) (config_of machine.old)) answers.old events.now close) }
+    ensures { IfOk result (λ close. IsClose (move_of machine.old) answers.old events.now close) }
 {
     match machine.step(alloc, answers) {
         Ok(Step::Quiet) | Ok(Step::Shown(_)) | Err(RunError::Deep) => Ok(Close::Running),
@@ -63,8 +63,10 @@ fn make_steps(
     steps: u32,
 ) -> Result<(), RunError>
     requires { IsAfter (program_of machine.old) answers.old 0 machine.old answers.old events.old.items }
-    ensures after { OnOk result (IsAfter (program_of machine.old) answers.old steps machine.new answers.new events.new.items) }
-    ensures deep { IsErrOf result RunError.Deep → GetsDeep (program_of machine.old) answers.old steps }
+    ensures after { OnOk result (IsAfter (program_of machine.old) answers.old steps
+        machine.new answers.new events.new.items) }
+    ensures deep { IsErrOf result RunError.Deep →
+        GetsDeep (program_of machine.old) answers.old steps }
 {
     for _ in 0..steps {
         let step = match machine.step(alloc, answers) {
@@ -89,8 +91,10 @@ pub fn replay_plain(
     answers: &[i32],
     steps: u32,
 ) -> Result<Replay, RunError>
-    ensures events { IfOk result (λ replay. replay.events.items ≡ events program.now answers.now steps) }
-    ensures close { IfOk result (λ replay. IsPlainClose program.now answers.now steps replay.close) }
+    ensures events { IfOk result (λ replay.
+        replay.events.items ≡ events program.now answers.now steps) }
+    ensures close { IfOk result (λ replay.
+        IsPlainClose program.now answers.now steps replay.close) }
     ensures shallow { OnOk result (StaysShallow program.now answers.now steps) }
     ensures deep { IsErrOf result RunError.Deep → GetsDeep program.now answers.now steps }
 {

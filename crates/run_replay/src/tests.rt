@@ -179,7 +179,10 @@ fn runs_close(rt: HostRuntime) -> Result<(), AllocError> {
 fn statements_do_what_they_say(rt: HostRuntime) -> Result<(), AllocError> {
     let cases: [(&[u8], &str); 10] = [
         (
-            b"int a[2] = {5, 6};\nint main(void) { a[1] = a[0] + a[1];\nclient_out(a[1]);\na[2] = 1 / 0; }",
+            b"int a[2] = {5, 6};\n\
+              int main(void) { a[1] = a[0] + a[1];\n\
+              client_out(a[1]);\n\
+              a[2] = 1 / 0; }",
             "out 11, fault divide merge 4, faulted",
         ),
         (
@@ -187,11 +190,17 @@ fn statements_do_what_they_say(rt: HostRuntime) -> Result<(), AllocError> {
             "fault index merge 3, faulted",
         ),
         (
-            b"int main(void) { int i = 0; int n = 0;\nwhile (i < 3) { int j = 0; while (1) { if (j == i) { break; } j = j + 1; n = n + 1; } i = i + 1; }\nreturn n; }",
+            b"int main(void) { int i = 0; int n = 0;\n\
+              while (i < 3) { int j = 0;\n\
+              while (1) { if (j == i) { break; } j = j + 1; n = n + 1; } i = i + 1; }\n\
+              return n; }",
             "end 3, ended",
         ),
         (
-            b"int main(void) { int z = 0;\nif (z != 0 && 1 / z) { client_out(1); } else { client_out(2); }\nif (z == 0 || 1 / z) { client_out(3); }\nreturn 0; }",
+            b"int main(void) { int z = 0;\n\
+              if (z != 0 && 1 / z) { client_out(1); } else { client_out(2); }\n\
+              if (z == 0 || 1 / z) { client_out(3); }\n\
+              return 0; }",
             "out 2, out 3, end 0, ended",
         ),
         (
@@ -199,11 +208,15 @@ fn statements_do_what_they_say(rt: HostRuntime) -> Result<(), AllocError> {
             "fault overflow merge 2, faulted",
         ),
         (
-            b"int x = 1;\nint f(int x, int y) { x = x + y; return x; }\nint main(void) { int a = f(3, 4); client_out(a); return x; }",
+            b"int x = 1;\n\
+              int f(int x, int y) { x = x + y; return x; }\n\
+              int main(void) { int a = f(3, 4); client_out(a); return x; }",
             "out 7, end 1, ended",
         ),
         (
-            b"int x = 1;\nvoid f(void) { x = x + 1; }\nint main(void) { int y = 5; f(); f(); assert(y == 5); return x; }",
+            b"int x = 1;\n\
+              void f(void) { x = x + 1; }\n\
+              int main(void) { int y = 5; f(); f(); assert(y == 5); return x; }",
             "end 3, ended",
         ),
         (
@@ -211,11 +224,14 @@ fn statements_do_what_they_say(rt: HostRuntime) -> Result<(), AllocError> {
             "fault assert merge 3, faulted",
         ),
         (
-            b"int g = 7;\nint f(void) { return g; }\nint main(void) { int l = 3; int r = f(); return l + r; }",
+            b"int g = 7;\n\
+              int f(void) { return g; }\n\
+              int main(void) { int l = 3; int r = f(); return l + r; }",
             "end 10, ended",
         ),
         (
-            b"int main(void) { client_out(-7 / 2); client_out(-7 % 2); client_out(!5); return - -3; }",
+            b"int main(void) { client_out(-7 / 2); client_out(-7 % 2);\n\
+              client_out(!5); return - -3; }",
             "out -3, out -1, out 0, end 3, ended",
         ),
     ];
