@@ -1,13 +1,10 @@
 -- Doing what a statement asks for is the statement's step.
-use Rattle.std.proofs.Common.{◌≡◌, ℤ, pos, Bool, true, false, if◌then◌else◌, List, [], ◌∷◌, ◌++◌, map, Option, Some, None, Result, Ok, Err, refl, ◌∙◌}
-use Rattle.std.specs.Str.{bytes_eq}
+use Rattle.std.proofs.Common.{◌≡◌, Bool, true, false, if◌then◌else◌, List, [], ◌∷◌, ◌++◌, map, Some, None, Ok, Err, refl, ◌∙◌}
 use Rattle.c_lang.specs.Names.{Bytes}
-use Rattle.c_lang.specs.Evaluation.{Look, ev}
 use Rattle.c_lang.specs.Moves.{Move, Goes}
 use Rattle.c_lang.specs.PlainRun.{Store, PlainFrame, PlainConfig, plain_access, dropped}
 use Rattle.c_lang.specs.Steps as steps
 use Rattle.c_lang.specs.Steps.{Does, Mark, Live, row_with}
-use Rattle.c_lang.specs.Trees.{expression_of}
 use Rattle.c_lang.specs.Values.{Value, Answer, number, is_zero}
 use Rattle.c_lang.specs.declared.event.Trap.TheVariants as trap
 use Rattle.c_lang.specs.declared.event.Event.TheVariants as event

@@ -1,6 +1,7 @@
 pub mod Levels
 pub mod FrameLaws
 pub mod TableLaws
+pub mod InitialLaws
 pub mod CallLaws
 pub mod StoreLaws
 pub mod RowLaws

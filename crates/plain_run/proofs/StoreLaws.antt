@@ -1,20 +1,18 @@
 -- A value is stored in a table of names.
-use Rattle.std.proofs.Common.{◌≡◌, ℤ, pos, Bool, true, false, if◌then◌else◌, List, Vec, Global, Option, Some, None, is_some, refl, sym, ap, ◌∙◌}
+use Rattle.std.proofs.Common.{◌≡◌, true, false, List, Option, Some, None, is_some, refl, sym, ap, ◌∙◌}
 use Rattle.std.specs.Borrow.{Bor}
 use Rattle.std.specs.Option.{option_map}
-use Rattle.std.specs.Str.{bytes_eq}
 use Rattle.indexmap.specs.IndexMap.{insert_entry}
 use Rattle.c_lang.specs.Names.{Bytes}
 use Rattle.c_lang.specs.Values as spec
 use Rattle.c_lang.specs.PlainRun.{Store, PlainFrame, plain_access}
-use Rattle.c_lang.specs.Steps.{Item, Live, updated, local_or, into}
+use Rattle.c_lang.specs.Steps.{Live, updated, into}
 use Rattle.c_lang.specs.declared.program.Program.{Program}
-use Rattle.c_lang.specs.declared.stmt.Dest.{Dest}
 use Rattle.c_lang.specs.declared.stmt.Dest.TheVariants.{Into, Fresh}
 use Rattle.c_lang.specs.declared.stmt.Kind.{Kind}
 use Rattle.plain_run.specs.declared.value.Value.{Value}
 use Rattle.plain_run.specs.Frames.{frame_with}
-use Rattle.plain_run.specs.Names.{found, seen_locals, seen_values}
+use Rattle.plain_run.specs.Names.{found, value_or_zero, seen_locals, seen_values}
 use Rattle.plain_run.specs.Stored.{Entries, store_with, Stores}
 use Rattle.plain_run.specs.Values.{seen_value}
 use Rattle.plain_run.proofs.TableLaws.{same_name, seen-insert}
@@ -29,7 +27,7 @@ module _ (old new : Entries) (k : Bor Bytes) (v : Value) (is : new ≡ insert_en
 
   values-insert : updated (seen_values old) k.now (seen_value v) ≡ seen_values new
   values-insert = all_names _ _ (λ x. sym (ap (λ entries. seen_values entries x) is
-      ∙ seen-insert (λ o. local_or (option_map seen_value o) (spec.Num (pos 0))) old k v x))
+      ∙ seen-insert value_or_zero old k v x))
 
   pub stores_fresh : (values : Entries) (kind : Kind) → Stores old values (Fresh kind k.now) v new values
   stores_fresh values kind P rows items dest gives below =

@@ -1,6 +1,6 @@
 -- A step in two halves: what a statement asks for, and what is done then. The second half alone
 -- changes the configuration.
-use Rattle.std.specs.Prelude.{◌≡◌, ℕ, ℤ, pos, Bool, true, false, not, if◌then◌else◌, List, [], ◌∷◌, ◌++◌, map, Option, Some, None, Result, Ok, Err}
+use Rattle.std.specs.Prelude.{ℕ, ℤ, pos, not, if◌then◌else◌, List, [], ◌∷◌, ◌++◌, map, Some, None, Ok, Err}
 use Rattle.std.specs.Str.{bytes_eq}
 use Rattle.c_lang.specs.Names.{Bytes}
 use Rattle.c_lang.specs.Evaluation.{Look, ev}
@@ -9,7 +9,7 @@ use Rattle.c_lang.specs.PlainRun.{Store, PlainFrame, PlainConfig, plain_access}
 use Rattle.c_lang.specs.Steps as steps
 use Rattle.c_lang.specs.Steps.{Does, Mark, Live, after_mark, row_with, given}
 use Rattle.c_lang.specs.Trees.{expression_of}
-use Rattle.c_lang.specs.Values.{Value, Num, Code, Null, Answer, number, is_zero}
+use Rattle.c_lang.specs.Values.{Value, Num, Code, Answer, number, is_zero}
 use Rattle.c_lang.specs.declared.event.Trap.{Trap}
 use Rattle.c_lang.specs.declared.event.Trap.TheVariants.{Assert}
 use Rattle.c_lang.specs.declared.event.Event.TheVariants as event

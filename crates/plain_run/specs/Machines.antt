@@ -1,9 +1,9 @@
 -- What a machine stands for.
-use Rattle.std.specs.Prelude.{◌≡◌, ℤ, Bool, true, false, List, Result}
+use Rattle.std.specs.Prelude.{ℤ, Bool, true, false, List, Result}
 use Rattle.c_lang.specs.Evaluation.{Look}
 use Rattle.c_lang.specs.Moves.{Move}
 use Rattle.c_lang.specs.Names.{Bytes}
-use Rattle.c_lang.specs.PlainRun.{Store, PlainFrame, PlainConfig, plain_access}
+use Rattle.c_lang.specs.PlainRun.{Store, PlainFrame, PlainConfig, plain_access, step}
 use Rattle.c_lang.specs.Steps.{Live, Over, look, entered}
 use Rattle.c_lang.specs.Values.{Value}
 use Rattle.c_lang.specs.declared.program.Program.{Program}
@@ -30,6 +30,10 @@ config_if false c = c
 
 abbrev pub config_of : Machine → PlainConfig
 config_of m = config_if m.over (Live (store_of m) (seen_frame m.top) (seen_frames m.below))
+
+-- the plain step that it makes next
+abbrev pub move_of : Machine → Move PlainConfig
+move_of m = step (program_of m) (config_of m)
 
 -- the frame without the statement that runs next
 abbrev pub behind_statement : Frame → PlainFrame

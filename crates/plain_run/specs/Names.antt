@@ -1,5 +1,5 @@
 -- What the machine's tables of names stand for. A table has each name once.
-use Rattle.std.specs.Prelude.{ℤ, pos, List, [], map, Option, Some, None, Vec}
+use Rattle.std.specs.Prelude.{ℤ, pos, List, [], Option, Some, None, Vec}
 use Rattle.std.specs.Borrow.{Bor}
 use Rattle.std.specs.Map.{lookup}
 use Rattle.std.specs.Option.{option_map}
@@ -7,8 +7,7 @@ use Rattle.std.specs.Str.{bytes_eq}
 use Rattle.std.specs.declared.alloc.Global.{Global}
 use Rattle.c_lang.specs.Names.{Bytes}
 use Rattle.c_lang.specs.Values as spec
-use Rattle.c_lang.specs.PlainRun.{Store}
-use Rattle.c_lang.specs.Steps.{Locals, local_or}
+use Rattle.c_lang.specs.Steps.{Locals}
 use Rattle.plain_run.specs.declared.value.Value.{Value}
 use Rattle.plain_run.specs.Values.{seen_value}
 
@@ -19,8 +18,12 @@ found entries x = lookup (λ k. bytes_eq x k.now) entries
 abbrev pub seen_locals : List (Bor Bytes × Value) → Locals Bytes
 seen_locals entries x = option_map seen_value (found entries x)
 
+abbrev pub value_or_zero : Option Value → spec.Value Bytes
+value_or_zero None = spec.Num (pos 0)
+value_or_zero (Some v) = seen_value v
+
 abbrev pub seen_values : List (Bor Bytes × Value) → Bytes → spec.Value Bytes
-seen_values entries x = local_or (seen_locals entries x) (spec.Num (pos 0))
+seen_values entries x = value_or_zero (found entries x)
 
 abbrev pub row_or_empty : Option (Vec ℤ Global) → List ℤ
 row_or_empty None = []

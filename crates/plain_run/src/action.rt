@@ -30,7 +30,8 @@ pub enum Action<'p> {
 
 /// What the statement asks for.
 pub(crate) fn asked<'p>(scope: Scope<'_, 'p>, statement: &'p Stmt) -> Action<'p>
-    ensures { seen_action result ≡ asked (look_of scope.entry) statement.entry.now (out-Stmt statement.entry.now) }
+    ensures { seen_action result ≡
+        asked (look_of scope.entry) statement.entry.now (out-Stmt statement.entry.now) }
 {
     match statement {
         Stmt::Set { pos, dest, value } => match scope.eval(value) {

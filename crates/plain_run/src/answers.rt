@@ -29,7 +29,8 @@ impl Answers {
 
     /// Takes the next answer. None comes exactly where none is left. It takes no memory.
     pub fn next(&mut self) -> Option<i32>
-        ensures { MatchOption result ((self.old ≡ []) × (self.new ≡ [])) (λ answer. self.old ≡ answer ∷ self.new) }
+        ensures { MatchOption result ((self.old ≡ []) × (self.new ≡ []))
+            (λ answer. self.old ≡ answer ∷ self.new) }
     {
         if self.next == self.list.len() {
             return None;
@@ -48,7 +49,8 @@ impl Answers {
 
     // The next answer, which stays.
     pub(crate) fn first(&self) -> Option<i32>
-        ensures { MatchOption result (self.now ≡ []) (λ answer. self.now ≡ answer ∷ drop 1 self.now) }
+        ensures { MatchOption result (self.now ≡ [])
+            (λ answer. self.now ≡ answer ∷ drop 1 self.now) }
     {
         if self.next == self.list.len() {
             return None;

@@ -34,7 +34,8 @@ fn bound<'p>(
     params: &'p [(Kind, Name)],
     args: &[Value<'p>],
 ) -> Result<Values<'p>, AllocError>
-    ensures { IfOk result (λ locals. (x : List ℕ) → seen_locals locals.entries x ≡ bound params.entry.now (map seen_value args.now) x) }
+    ensures { IfOk result (λ locals. (x : List ℕ) →
+        seen_locals locals.entries x ≡ bound params.entry.now (map seen_value args.now) x) }
 {
     let mut locals = IndexMap::new(alloc);
     let mut left = params.len();
@@ -53,7 +54,9 @@ pub(crate) fn frame_of<'p>(
     args: &[Value<'p>],
     dest: Option<&'p Dest>,
 ) -> Result<Frame<'p>, AllocError>
-    ensures { IfOk result (λ frame. (P : Program) → seen_frame frame ≡ frame_of (plain_access P) (tt, unwrap_or (option_copied func.entry) no_func) (map seen_value args.now) (dest_of dest.entry)) }
+    ensures { IfOk result (λ frame. (P : Program) → seen_frame frame ≡
+        frame_of (plain_access P) (tt, unwrap_or (option_copied func.entry) no_func)
+        (map seen_value args.now) (dest_of dest.entry)) }
 {
     let mut rest = Vec::new(alloc);
     match func {

@@ -104,7 +104,8 @@ impl<'p> Scope<'_, 'p> {
         alloc: Global,
         exprs: &'p [Expr],
     ) -> Result<Result<Vec<Value<'p>>, Trap>, AllocError>
-        ensures { IfOk result (λ values. seen_arguments values ≡ values_in (look_of self.entry) exprs.entry.now) }
+        ensures { IfOk result (λ values.
+            seen_arguments values ≡ values_in (look_of self.entry) exprs.entry.now) }
     {
         let mut values = Vec::with_capacity(alloc, exprs.len())?;
         for expr in exprs {

@@ -1,6 +1,7 @@
 //! A call that hasn't returned.
 
-ghost use Rattle.std.specs.Prelude.{◌≡◌, [], ◌∷◌, ◌++◌, ◌≤◌, vec_len, vec_capacity, map, OnOk, OnErr};
+ghost use Rattle.std.specs.Prelude.{◌≡◌, ◌≤◌, [], ◌∷◌, ◌++◌, map, OnOk, OnErr};
+ghost use Rattle.std.specs.Prelude.{vec_len, vec_capacity};
 ghost use Rattle.std.specs.Option.{option_copied};
 ghost use Rattle.c_lang.specs.Steps.{Does, Mark, after_mark};
 ghost use Rattle.plain_run.specs.Frames.{seen_items, first_statement, behind_first};
@@ -74,7 +75,8 @@ pub(crate) fn leave_loop(rest: &mut Vec<Rest<'_>>)
 
 // Puts a body in the place of the statement that runs next.
 pub(crate) fn enter_body<'p>(rest: &mut Vec<Rest<'p>>, body: &'p [Stmt]) -> Result<(), AllocError>
-    ensures ok { OnOk result (seen_items rest.new.items ≡ map Does body.entry.now ++ behind_first (seen_items rest.old.items)) }
+    ensures ok { OnOk result (seen_items rest.new.items ≡
+        map Does body.entry.now ++ behind_first (seen_items rest.old.items)) }
     ensures err { OnErr result (rest.new.items ≡ rest.old.items) }
 {
     rest.reserve(1)?;
@@ -89,7 +91,9 @@ pub(crate) fn enter_loop<'p>(
     body: &'p [Stmt],
     mark: &'p Stmt,
 ) -> Result<(), AllocError>
-    ensures ok { OnOk result (seen_items rest.new.items ≡ (map Does body.entry.now ++ Mark mark.entry.now ∷ []) ++ behind_first (seen_items rest.old.items)) }
+    ensures ok { OnOk result (seen_items rest.new.items ≡
+        (map Does body.entry.now ++ Mark mark.entry.now ∷ [])
+        ++ behind_first (seen_items rest.old.items)) }
     ensures err { OnErr result (rest.new.items ≡ rest.old.items) }
 {
     rest.reserve(2)?;

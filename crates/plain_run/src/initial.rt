@@ -1,7 +1,8 @@
 //! The globals at the start of a run. Of several with one name the first counts.
 
 ghost use Rattle.std.specs.Prelude.{◌≡◌, IfOk, List, ℕ};
-ghost use Rattle.c_lang.specs.Programs.{global_named, shape_value, shape_row, initial_value, initial_row};
+ghost use Rattle.c_lang.specs.Programs.{global_named, initial_value, initial_row};
+ghost use Rattle.c_lang.specs.Programs.{shape_value, shape_row};
 ghost use Rattle.plain_run.specs.Names.{seen_values, seen_rows};
 ghost use Rattle.plain_run.specs.Values.{seen_value};
 
@@ -34,7 +35,8 @@ fn shape_row(alloc: Global, shape: &Shape) -> Result<Vec<i32>, AllocError>
 
 /// The values of scalars and pointers.
 pub(crate) fn initial_values(alloc: Global, globals: &[GlobalVar]) -> Result<Values<'_>, AllocError>
-    ensures { IfOk result (λ values. (x : List ℕ) → seen_values values.entries x ≡ initial_value (λ f. f) (global_named globals.now x)) }
+    ensures { IfOk result (λ values. (x : List ℕ) →
+        seen_values values.entries x ≡ initial_value (λ f. f) (global_named globals.now x)) }
 {
     let mut values = IndexMap::new(alloc);
     let mut left = globals.len();
@@ -48,7 +50,8 @@ pub(crate) fn initial_values(alloc: Global, globals: &[GlobalVar]) -> Result<Val
 
 /// The elements of arrays.
 pub(crate) fn initial_rows(alloc: Global, globals: &[GlobalVar]) -> Result<Rows<'_>, AllocError>
-    ensures { IfOk result (λ rows. (x : List ℕ) → seen_rows rows.entries x ≡ initial_row (global_named globals.now x)) }
+    ensures { IfOk result (λ rows. (x : List ℕ) →
+        seen_rows rows.entries x ≡ initial_row (global_named globals.now x)) }
 {
     let mut rows = IndexMap::new(alloc);
     let mut left = globals.len();

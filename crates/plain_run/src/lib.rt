@@ -1,17 +1,20 @@
-//! Runs a program without updates, statement by statement.
+//! Runs a program that knows no update, statement by statement.
+//!
+//! A step is in two halves: `action` finds what the next statement asks for and only reads, and
+//! `machine` does it. What can fail for want of memory comes before the first write.
 #![tactic(auto)]
 
-pub mod action;
-pub mod answers;
-pub mod call;
-pub mod eval;
-pub mod frame;
-pub mod indexed;
-pub mod initial;
-pub mod machine;
-pub mod names;
-pub mod step;
-pub mod value;
+mod action;
+mod answers;
+mod call;
+mod eval;
+mod frame;
+mod indexed;
+mod initial;
+mod machine;
+mod names;
+mod step;
+mod value;
 
 pub use answers::Answers;
 pub use machine::Machine;

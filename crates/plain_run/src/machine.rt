@@ -1,5 +1,6 @@
-ghost use Rattle.std.specs.Prelude.{◌≡◌, ◌<◌, ◌≤◌, false, List, ℤ, Ok, Err, map, vec_len, IfOk, OnErr, IsErrOf};
-ghost use Rattle.c_lang.specs.PlainRun.{start, step};
+ghost use Rattle.std.specs.Prelude.{◌≡◌, ◌<◌, ◌≤◌, false, ℤ, List, map, vec_len};
+ghost use Rattle.std.specs.Prelude.{Ok, Err, IfOk, OnErr, IsErrOf};
+ghost use Rattle.c_lang.specs.PlainRun.{start};
 ghost use Rattle.plain_run.specs.Actions as spec;
 ghost use Rattle.plain_run.specs.Runs.{frame_count, IsTooDeep, Makes, Makes_or_fails};
 
@@ -20,8 +21,8 @@ use std::mem;
 // The frames that a run may have.
 const MOST_FRAMES: usize = 10_000;
 
-/// A run of a program. Contracts see its configuration as `config_of`, and the program as
-/// `program_of`.
+/// A run of a program that knows no update. Contracts see its configuration as `config_of`, and the
+/// program as `program_of`.
 #[derive(Drop)]
 pub struct Machine<'p> {
     program: IndexedProgram<'p>,
@@ -35,7 +36,8 @@ pub struct Machine<'p> {
 
 impl<'p> Machine<'p> {
     ghost use Rattle.plain_run.specs.Frames.{first_statement, seen_items};
-    ghost use Rattle.plain_run.specs.Machines.{HasDone, config_of, entering, look_in, program_of};
+    ghost use Rattle.plain_run.specs.Machines.{HasDone, config_of, program_of};
+    ghost use Rattle.plain_run.specs.Machines.{entering, look_in, move_of};
     ghost use Rattle.plain_run.specs.Scopes.{look_of};
     ghost use Rattle.plain_run.specs.SeenActions.{seen_action};
     ghost use Rattle.plain_run.specs.Values.{seen_value};
@@ -61,7 +63,8 @@ impl<'p> Machine<'p> {
 
     fn enter(&mut self, body: &'p [Stmt]) -> Result<Step, RunError>
         requires { self.old.over ≡ false }
-        ensures done { (a : List ℤ) → HasDone self.old (spec.Enter body.entry.now) a result self.new a }
+        ensures done { (a : List ℤ) →
+            HasDone self.old (spec.Enter body.entry.now) a result self.new a }
         ensures program { program_of self.new ≡ program_of self.old }
     {
         enter_body(&mut self.top.rest, body)?;
@@ -70,7 +73,8 @@ impl<'p> Machine<'p> {
 
     fn fault(&mut self, trap: Trap, pos: Pos) -> Step
         requires { self.old.over ≡ false }
-        ensures done { (a : List ℤ) → HasDone self.old (spec.Fault trap pos) a (Ok result) self.new a }
+        ensures done { (a : List ℤ) →
+            HasDone self.old (spec.Fault trap pos) a (Ok result) self.new a }
         ensures program { program_of self.new ≡ program_of self.old }
     {
         self.over = true;
@@ -79,7 +83,8 @@ impl<'p> Machine<'p> {
 
     fn enter_loop(&mut self, body: &'p [Stmt], mark: &'p Stmt) -> Result<Step, RunError>
         requires { self.old.over ≡ false }
-        ensures done { (a : List ℤ) → HasDone self.old (spec.Loop body.entry.now mark.entry.now) a result self.new a }
+        ensures done { (a : List ℤ) →
+            HasDone self.old (spec.Loop body.entry.now mark.entry.now) a result self.new a }
         ensures program { program_of self.new ≡ program_of self.old }
     {
         enter_loop(&mut self.top.rest, body, mark)?;
@@ -98,7 +103,8 @@ impl<'p> Machine<'p> {
 
     fn output(&mut self, number: i32) -> Step
         requires { self.old.over ≡ false }
-        ensures done { (a : List ℤ) → HasDone self.old (spec.Output number) a (Ok result) self.new a }
+        ensures done { (a : List ℤ) →
+            HasDone self.old (spec.Output number) a (Ok result) self.new a }
         ensures program { program_of self.new ≡ program_of self.old }
     {
         drop_first(&mut self.top.rest);
@@ -107,7 +113,8 @@ impl<'p> Machine<'p> {
 
     fn store(&mut self, dest: &'p Dest, value: Value<'p>) -> Result<Step, RunError>
         requires { self.old.over ≡ false }
-        ensures done { (a : List ℤ) → HasDone self.old (spec.Store_value dest.entry.now (seen_value value.entry)) a result self.new a }
+        ensures done { (a : List ℤ) → HasDone self.old
+            (spec.Store_value dest.entry.now (seen_value value.entry)) a result self.new a }
         ensures program { program_of self.new ≡ program_of self.old }
     {
         store(&mut self.top.locals, &mut self.values, dest, value)?;
@@ -136,7 +143,8 @@ impl<'p> Machine<'p> {
 
     fn choice(&mut self, dest: &'p Dest, k: u32, answers: &mut Answers) -> Result<Step, RunError>
         requires { self.old.over ≡ false }
-        ensures done { HasDone self.old (spec.Choice dest.entry.now k) answers.old result self.new answers.new }
+        ensures done { HasDone self.old
+            (spec.Choice dest.entry.now k) answers.old result self.new answers.new }
         ensures program { program_of self.new ≡ program_of self.old }
     {
         let Some(number) = answers.first() else {
@@ -152,7 +160,8 @@ impl<'p> Machine<'p> {
 
     fn store_element(&mut self, array: &'p Name, at: i32, element: i32, pos: Pos) -> Step
         requires { self.old.over ≡ false }
-        ensures done { (a : List ℤ) → HasDone self.old (spec.Store_element array.entry.now at element pos) a (Ok result) self.new a }
+        ensures done { (a : List ℤ) → HasDone self.old
+            (spec.Store_element array.entry.now at element pos) a (Ok result) self.new a }
         ensures program { program_of self.new ≡ program_of self.old }
     {
         if !store_element(&mut self.rows, array, at, element) {
@@ -165,7 +174,8 @@ impl<'p> Machine<'p> {
     // Leaves the frame on top.
     fn give_back(&mut self, value: Value<'p>) -> Result<Step, RunError>
         requires { self.old.over ≡ false }
-        ensures done { (a : List ℤ) → HasDone self.old (spec.Return (seen_value value.entry)) a result self.new a }
+        ensures done { (a : List ℤ) →
+            HasDone self.old (spec.Return (seen_value value.entry)) a result self.new a }
         ensures program { program_of self.new ≡ program_of self.old }
     {
         let given = if self.top.gives { value } else { Value::Num(0) };
@@ -199,7 +209,9 @@ impl<'p> Machine<'p> {
         dest: &'p Dest,
     ) -> Result<Step, RunError>
         requires { self.old.over ≡ false }
-        ensures done { (a : List ℤ) → Makes_or_fails (entering self.old callee.now (map seen_value args.now) dest.entry.now) (config_of self.old) a result (config_of self.new) a }
+        ensures done { (a : List ℤ) → Makes_or_fails
+            (entering self.old callee.now (map seen_value args.now) dest.entry.now)
+            (config_of self.old) a result (config_of self.new) a }
         ensures program { program_of self.new ≡ program_of self.old }
     {
         if self.below.len() >= MOST_FRAMES - 1 {
@@ -222,7 +234,9 @@ impl<'p> Machine<'p> {
         pos: Pos,
     ) -> Result<Step, RunError>
         requires { self.old.over ≡ false }
-        ensures done { (a : List ℤ) → HasDone self.old (spec.Call (seen_value callee.entry) args.entry.now dest.entry.now pos) a result self.new a }
+        ensures done { (a : List ℤ) → HasDone self.old
+            (spec.Call (seen_value callee.entry) args.entry.now dest.entry.now pos)
+            a result self.new a }
         ensures program { program_of self.new ≡ program_of self.old }
     {
         let values = match self.scope().arguments(alloc, args)? {
@@ -264,7 +278,8 @@ impl<'p> Machine<'p> {
     }
 
     fn advance(&mut self, alloc: Global, answers: &mut Answers) -> Result<Step, RunError>
-        ensures done { Makes_or_fails (step (program_of self.old) (config_of self.old)) (config_of self.old) answers.old result (config_of self.new) answers.new }
+        ensures done { Makes_or_fails (move_of self.old)
+            (config_of self.old) answers.old result (config_of self.new) answers.new }
         ensures program { program_of self.new ≡ program_of self.old }
     {
         if self.over {
@@ -279,11 +294,17 @@ impl<'p> Machine<'p> {
         }
     }
 
-    /// Makes a step.
+    /// Makes the next step of the run.
+    ///
+    /// `Step::Waiting` comes exactly where the statement takes an answer and none is left,
+    /// `Step::Stopped` exactly where the run is over; then nothing changes. `RunError::Deep` comes
+    /// exactly where the step would make one frame more than 10,000. After an error the machine and
+    /// the answers are as before.
     pub fn step(&mut self, alloc: Global, answers: &mut Answers) -> Result<Step, RunError>
-        ensures made { IfOk result (λ shown. Makes (step (program_of self.old) (config_of self.old)) (config_of self.old) answers.old shown (config_of self.new) answers.new) }
+        ensures made { IfOk result (λ shown. Makes (move_of self.old)
+            (config_of self.old) answers.old shown (config_of self.new) answers.new) }
         ensures depth { frame_count (config_of self.new) ≤ 10000 }
-        ensures deep { IsErrOf result RunError.Deep → IsTooDeep (step (program_of self.old) (config_of self.old)) }
+        ensures deep { IsErrOf result RunError.Deep → IsTooDeep (move_of self.old) }
         ensures config { OnErr result (config_of self.new ≡ config_of self.old) }
         ensures answers { OnErr result (answers.new ≡ answers.old) }
         ensures program { program_of self.new ≡ program_of self.old }

@@ -23,7 +23,8 @@ pub(crate) fn store<'p>(
     dest: &'p Dest,
     value: Value<'p>,
 ) -> Result<(), AllocError>
-    ensures stored { OnOk result (Stores locals.old.entries values.old.entries dest.entry.now value.entry locals.new.entries values.new.entries) }
+    ensures stored { OnOk result (Stores locals.old.entries values.old.entries
+        dest.entry.now value.entry locals.new.entries values.new.entries) }
     ensures locals { OnErr result (locals.new.entries ≡ locals.old.entries) }
     ensures values { OnErr result (values.new.entries ≡ values.old.entries) }
 {
@@ -45,7 +46,8 @@ pub(crate) fn store<'p>(
 
 // Writes an element where the index is within the bounds, and says whether it is.
 fn set_element(row: &mut Vec<i32>, at: i32, element: i32) -> bool
-    ensures within { row_with row.old.items at element ≡ (if result then Some row.new.items else None) }
+    ensures within { row_with row.old.items at element ≡
+        (if result then Some row.new.items else None) }
     ensures outside { result ≡ false → row.new.items ≡ row.old.items }
 {
     if at < 0 {

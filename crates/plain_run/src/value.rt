@@ -122,7 +122,8 @@ fn same_value(a: Value<'_>, b: Value<'_>) -> bool
 
 // An operator on the values of both operands.
 pub(crate) fn applied<'p>(op: Op, a: Value<'p>, b: Value<'p>) -> Answer<'p>
-    ensures { seen_answer result ≡ evaluation.applied bytes_eq op (seen_value a.entry) (seen_value b.entry) }
+    ensures { seen_answer result ≡
+        evaluation.applied bytes_eq op (seen_value a.entry) (seen_value b.entry) }
 {
     let x = a.number();
     let y = b.number();

@@ -1,4 +1,4 @@
-use Rattle.std.proofs.Common.{◌≡◌, sym, ap₂, ◌∙◌, w32}
+use Rattle.std.proofs.Common.{sym, ap₂, ◌∙◌, w32}
 use Rattle.std.proofs.lemmas.Int.{to_z-of_z}
 use Rattle.c_lang.specs.Steps.{row_with}
 use Rattle.plain_run.proofs.RowLaws.{stores_element}

@@ -1,4 +1,4 @@
-use Rattle.std.proofs.Common.{◌≡◌, ◌∷◌, drop, arith, refl, sym, subst}
+use Rattle.std.proofs.Common.{drop, arith, refl, sym, subst}
 use Rattle.std.specs.Option.{option_map}
 use Rattle.c_lang.specs.Programs.{func_named}
 use Rattle.plain_run.specs.Tables.{HasFuncs}

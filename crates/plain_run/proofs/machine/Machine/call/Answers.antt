@@ -1,4 +1,4 @@
-use Rattle.std.proofs.Common.{◌≡◌, Ok, Err, map, subst, sym, ap, ◌∙◌}
+use Rattle.std.proofs.Common.{Ok, Err, map, subst, sym, ap, ◌∙◌}
 use Rattle.c_lang.specs.Values.{Code}
 use Rattle.plain_run.specs.Calls.{seen_arguments, values_in}
 use Rattle.plain_run.specs.Machines.{config_of, entering}

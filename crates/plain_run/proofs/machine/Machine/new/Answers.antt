@@ -1,4 +1,4 @@
-use Rattle.std.proofs.Common.{◌≡◌, [], List, Option, unwrap_or, codes, refl, ap, ap₂, ◌∙◌}
+use Rattle.std.proofs.Common.{[], List, Option, unwrap_or, ap, ap₂, ◌∙◌}
 use Rattle.c_lang.specs.PlainRun.{plain_access}
 use Rattle.c_lang.specs.Programs.{no_func, func_named, global_named, initial_value, initial_row}
 use Rattle.c_lang.specs.Steps.{frame_of}

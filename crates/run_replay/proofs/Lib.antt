@@ -1,0 +1,4 @@
+pub mod MoveLaws
+pub mod ReachedLaws
+pub mod EndLaws
+pub mod AfterLaws

@@ -1,0 +1,312 @@
+use crate::{Close, Replay, replay_plain};
+use c_lang::{
+    Dest, Event, Expr, Fail, Func, GlobalVar, Kind, Name, Pos, Program, Shape, Stmt, Trap, Unit,
+};
+use c_lexer::lex;
+use c_parser::parse;
+use plain_run::RunError;
+use sqlite_items::Items;
+use std::alloc::{AllocError, Global};
+
+fn trap_word(trap: Trap) -> &'static str {
+    match trap {
+        Trap::Assert => "assert",
+        Trap::Overflow => "overflow",
+        Trap::Divide => "divide",
+        Trap::Index => "index",
+        Trap::NullCall => "nullcall",
+    }
+}
+
+fn event_text(alloc: Global, event: &Event) -> Result<String, AllocError> {
+    match event {
+        Event::Input(number) => format!(in alloc; "in {number}"),
+        Event::Output(number) => format!(in alloc; "out {number}"),
+        Event::Choice(k, chosen) => {
+            let chosen = if *chosen { 1 } else { 0 };
+            format!(in alloc; "choice {k} {chosen}")
+        }
+        Event::Fault(trap, pos) => {
+            let word = trap_word(*trap);
+            format!(in alloc; "fault {word} {} {}", pos.unit, pos.line)
+        }
+        Event::End(number) => format!(in alloc; "end {number}"),
+    }
+}
+
+fn close_word(close: Close) -> &'static str {
+    match close {
+        Close::Ended => "ended",
+        Close::Faulted => "faulted",
+        Close::Waiting => "waiting",
+        Close::Running => "running",
+    }
+}
+
+fn replay_text(alloc: Global, replay: &Replay) -> Result<String, AllocError> {
+    let mut text = String::new(alloc);
+    for event in &replay.events {
+        text.push_str(event_text(alloc, event)?.as_str())?;
+        text.push_str(", ")?;
+    }
+    text.push_str(close_word(replay.close))?;
+    Ok(text)
+}
+
+fn outcome(
+    alloc: Global,
+    program: &Program,
+    answers: &[i32],
+    steps: u32,
+) -> Result<String, AllocError> {
+    match replay_plain(alloc, program, answers, steps) {
+        Ok(replay) => replay_text(alloc, &replay),
+        Err(RunError::Deep) => format!(in alloc; "deep"),
+        Err(RunError::NoMemory) => Err(AllocError),
+    }
+}
+
+/// What a merged text shows.
+fn shown(alloc: Global, text: &[u8], answers: &[i32], steps: u32) -> Result<String, AllocError> {
+    let tokens = match lex(alloc, Unit::Merge, text) {
+        Ok(tokens) => tokens,
+        Err(Fail::NoMemory) => return Err(AllocError),
+        Err(Fail::Refused(_)) => return format!(in alloc; "no tokens"),
+    };
+    match parse(alloc, Unit::Merge, 72, &tokens) {
+        Ok(program) => outcome(alloc, &program, answers, steps),
+        Err(Fail::NoMemory) => Err(AllocError),
+        Err(Fail::Refused(_)) => format!(in alloc; "no program"),
+    }
+}
+
+const MERGED: &[u8] = b"#include \"dsu.h\"
+#line 1 \"merge\"
+int dsu_now = 0;
+#line 2 \"old\"
+int dsu_both_n = 1;
+#line 3 \"old\"
+int dsu_old_main(void) {
+#line 4 \"old\"
+client_out(dsu_both_n);
+#line 5 \"old\"
+if (dsu_now == 0) {
+#line 5 \"old\"
+int dsu_c = dsu_choice(1);
+#line 5 \"old\"
+if (dsu_c != 0) {
+#line 5 \"old\"
+dsu_now = 1;
+#line 5 \"old\"
+dsu_xform_dsu_transform();
+}
+}
+#line 6 \"old\"
+client_out(dsu_both_n);
+#line 7 \"old\"
+return 0;
+}
+#line 1 \"xform\"
+void dsu_xform_dsu_transform(void) {
+#line 2 \"xform\"
+dsu_both_n = dsu_both_n + 10;
+}
+#line 3 \"old\"
+int main(void) {
+#line 3 \"old\"
+int dsu_r = dsu_old_main();
+#line 3 \"old\"
+return dsu_r;
+}
+";
+
+#[test]
+fn a_merged_text_shows_the_update(rt: HostRuntime) -> Result<(), AllocError> {
+    let cases: [(&[i32], &str); 4] = [
+        (&[1], "out 1, choice 1 1, out 11, end 0, ended"),
+        (&[2], "out 1, choice 1 1, out 11, end 0, ended"),
+        (&[0], "out 1, choice 1 0, out 1, end 0, ended"),
+        (&[], "out 1, waiting"),
+    ];
+    for (answers, want) in cases {
+        let said = shown(rt.alloc(), MERGED, answers, 1000)?;
+        assert_eq!(rt; said.as_str(), want);
+    }
+    Ok(())
+}
+
+#[test]
+fn runs_close(rt: HostRuntime) -> Result<(), AllocError> {
+    let cases: [(&[u8], u32, &str); 8] = [
+        (
+            b"int f(int x) { return f(x); }\nint main(void) { return f(1); }",
+            100_000,
+            "deep",
+        ),
+        (b"int main(void) { while (1) { } }", 100, "running"),
+        (
+            b"int main(void) { return 1 / 0; }",
+            100,
+            "fault divide merge 1, faulted",
+        ),
+        (b"int main(void) { return 3; }", 1, "end 3, ended"),
+        (b"int main(void) { return 3; }", 0, "running"),
+        (
+            b"int main(void) { int a = client_in();\nreturn a; }",
+            0,
+            "waiting",
+        ),
+        (
+            b"int main(void) { int a = client_in();\nreturn a; }",
+            5,
+            "in -7, end -7, ended",
+        ),
+        (
+            b"int main(void) { client_out(1);\n}",
+            3,
+            "out 1, end 0, ended",
+        ),
+    ];
+    for (text, steps, want) in cases {
+        let answers: &[i32] = if want == "waiting" { &[] } else { &[-7] };
+        let said = shown(rt.alloc(), text, answers, steps)?;
+        assert_eq!(rt; said.as_str(), want);
+    }
+    Ok(())
+}
+
+#[test]
+fn statements_do_what_they_say(rt: HostRuntime) -> Result<(), AllocError> {
+    let cases: [(&[u8], &str); 10] = [
+        (
+            b"int a[2] = {5, 6};\n\
+              int main(void) { a[1] = a[0] + a[1];\n\
+              client_out(a[1]);\n\
+              a[2] = 1 / 0; }",
+            "out 11, fault divide merge 4, faulted",
+        ),
+        (
+            b"int a[2];\nint main(void) {\na[2] = 1; }",
+            "fault index merge 3, faulted",
+        ),
+        (
+            b"int main(void) { int i = 0; int n = 0;\n\
+              while (i < 3) { int j = 0;\n\
+              while (1) { if (j == i) { break; } j = j + 1; n = n + 1; } i = i + 1; }\n\
+              return n; }",
+            "end 3, ended",
+        ),
+        (
+            b"int main(void) { int z = 0;\n\
+              if (z != 0 && 1 / z) { client_out(1); } else { client_out(2); }\n\
+              if (z == 0 || 1 / z) { client_out(3); }\n\
+              return 0; }",
+            "out 2, out 3, end 0, ended",
+        ),
+        (
+            b"int main(void) { int m = -2147483647 - 1;\nreturn m % -1; }",
+            "fault overflow merge 2, faulted",
+        ),
+        (
+            b"int x = 1;\n\
+              int f(int x, int y) { x = x + y; return x; }\n\
+              int main(void) { int a = f(3, 4); client_out(a); return x; }",
+            "out 7, end 1, ended",
+        ),
+        (
+            b"int x = 1;\n\
+              void f(void) { x = x + 1; }\n\
+              int main(void) { int y = 5; f(); f(); assert(y == 5); return x; }",
+            "end 3, ended",
+        ),
+        (
+            b"int main(void) {\nassert(1);\nassert(0); }",
+            "fault assert merge 3, faulted",
+        ),
+        (
+            b"int g = 7;\n\
+              int f(void) { return g; }\n\
+              int main(void) { int l = 3; int r = f(); return l + r; }",
+            "end 10, ended",
+        ),
+        (
+            b"int main(void) { client_out(-7 / 2); client_out(-7 % 2);\n\
+              client_out(!5); return - -3; }",
+            "out -3, out -1, out 0, end 3, ended",
+        ),
+    ];
+    for (text, want) in cases {
+        let said = shown(rt.alloc(), text, &[], 1000)?;
+        assert_eq!(rt; said.as_str(), want);
+    }
+    Ok(())
+}
+
+fn at(line: u32) -> Pos {
+    Pos {
+        unit: Unit::Merge,
+        line,
+    }
+}
+
+/// `return a;`, where `a` is the result of a call through `p`.
+fn calls_pointer(alloc: Global) -> Result<Items<Stmt>, AllocError> {
+    let call = Stmt::CallBy {
+        pos: at(3),
+        dest: Dest::Fresh(Kind::Int, Name::new(alloc, b"a")?),
+        pointer: Name::new(alloc, b"p")?,
+        args: Items::from_vec(vec![in alloc; Expr::Lit(4)]?),
+    };
+    let last = Stmt::Return {
+        pos: at(4),
+        value: Some(Expr::Var(Name::new(alloc, b"a")?)),
+    };
+    Ok(Items::from_vec(vec![in alloc; call, last]?))
+}
+
+fn returns_argument(alloc: Global) -> Result<Func, AllocError> {
+    let value = Some(Expr::Var(Name::new(alloc, b"x")?));
+    let body = vec![in alloc; Stmt::Return { pos: at(2), value }]?;
+    Ok(Func {
+        name: Name::new(alloc, b"same")?,
+        params: Items::from_vec(vec![in alloc; (Kind::Int, Name::new(alloc, b"x")?)]?),
+        gives: true,
+        body: Items::from_vec(body),
+        pos: at(2),
+    })
+}
+
+/// A program whose `main` calls through a pointer that is at first null or the function named.
+fn pointer_program(alloc: Global, first: Option<Name>) -> Result<Program, AllocError> {
+    let pointer = GlobalVar {
+        name: Name::new(alloc, b"p")?,
+        shape: Shape::Fp(1, first),
+        pos: at(1),
+    };
+    let main = Func {
+        name: Name::new(alloc, b"main")?,
+        params: Items::new(alloc),
+        gives: true,
+        body: calls_pointer(alloc)?,
+        pos: at(3),
+    };
+    let same = returns_argument(alloc)?;
+    Ok(Program {
+        globals: Items::from_vec(vec![in alloc; pointer]?),
+        protos: Items::new(alloc),
+        funcs: Items::from_vec(vec![in alloc; same, main]?),
+        early: Items::new(alloc),
+    })
+}
+
+#[test]
+fn pointers_are_called(rt: HostRuntime) -> Result<(), AllocError> {
+    let program = pointer_program(rt.alloc(), None)?;
+    let said = outcome(rt.alloc(), &program, &[], 100)?;
+    assert_eq!(rt; said.as_str(), "fault nullcall merge 3, faulted");
+    let same = Name::new(rt.alloc(), b"same")?;
+    let program = pointer_program(rt.alloc(), Some(same))?;
+    let said = outcome(rt.alloc(), &program, &[], 100)?;
+    assert_eq!(rt; said.as_str(), "end 4, ended");
+    Ok(())
+}
