@@ -53,7 +53,7 @@ PROGRAMS = [("print_once", USES, PRINTS.replace("TIMES", "1")), ("print_often", 
 
 def main():
     folder = pathlib.Path(sys.argv[1])
-    once, often = build(folder, CRATES + ["merge_printer"], PROGRAMS)
+    once, often = build(folder, CRATES + ["c_types", "merge_printer"], PROGRAMS)
     good, before = True, None
     for megabytes in [1, 2, 4]:
         text = merged(megabytes * 1_000_000)
