@@ -143,7 +143,7 @@ mutual
   plain_statement_resolved b s (set_element p a i e) h =
       let k = element_kind (names_of s) (names_of s a) e in
       let one : plain_expression (expression_of (resolved (names_of s) k e)) ≡ plain_expression e =
-          rw (row_kind (names_of s) (names_of s a) e h.0) (plain_resolved (names_of s) Int e h.2) in
+      rw (row_kind (names_of s) (names_of s a) e h.0) (plain_resolved (names_of s) Int e h.2) in
       ap plain_statement (statement_of-SetElem p a (resolved (names_of s) Int i) (resolved (names_of s) k e))
       ∙ ap₂ (set_element p a) (plain_resolved (names_of s) Int i h.1) one
   plain_statement_resolved b s (call p d f es) h = plain_call s (names_of s f) p d f es h.1

@@ -1,4 +1,4 @@
-//! Functions: the head, then the body.
+//! Functions: the head, then the body. Of the scope after an error nothing is said.
 
 ghost use Rattle.std.specs.Prelude.{◌≡◌, IfOk, OnOk, None, map};
 ghost use Rattle.c_lang.specs.Trees.{statement_of, statements};

@@ -1,4 +1,5 @@
-//! Statements without bodies. After an error the scope is that of some statement of the function.
+//! Statements without bodies: each in its resolved form, or its first refusal. Of the scope after an
+//! error nothing is said.
 
 ghost use Rattle.std.specs.Prelude.{◌≡◌, OnOk, map};
 ghost use Rattle.std.specs.Option.{option_map};
@@ -164,7 +165,10 @@ pub fn answer(
 pub fn output(alloc: Global, scope: &Scope, pos: Pos, e: &Expr) -> Result<Expr, Fail>
     ensures { Checked result (at_place (names.smaller (wrong_effect scope.now) (expression.wrong (names_of scope.now) Int (expression_of e.now))) pos) (expression.resolved (names_of scope.now) Int (expression_of e.now)) }
 {
-    stop(smaller(wrong_effect(scope), wrong(scope, Kind::Int, e)), pos)?;
+    stop(
+        smaller(wrong_effect(scope), wrong(scope, Kind::Int, e)),
+        pos,
+    )?;
     Ok(resolve(alloc, scope, Kind::Int, e)?)
 }
 

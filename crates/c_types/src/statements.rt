@@ -1,4 +1,5 @@
-//! Statements and blocks. After an error the scope is that of some statement of the function.
+//! Statements and blocks: each in its resolved form, or its first refusal. Of the scope after an error
+//! nothing is said.
 
 ghost use Rattle.std.specs.Prelude.{◌≡◌, OnOk, map};
 ghost use Rattle.c_lang.specs.Trees.{statement_of};

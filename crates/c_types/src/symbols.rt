@@ -1,6 +1,6 @@
 //! A symbol table. A look-up takes the same time however many names there are.
 
-ghost use Rattle.std.specs.Prelude.{◌≡◌, OnOk, take, length, []};
+ghost use Rattle.std.specs.Prelude.{◌≡◌, OnOk, OnErr, take, length, []};
 ghost use Rattle.std.specs.Option.{option_copied};
 ghost use Rattle.c_types.specs.Names as spec;
 
@@ -69,9 +69,11 @@ impl Symbols {
         }
     }
 
-    /// Adds a name, unless it is there already.
+    /// Adds a name, unless it is there already. The only error is want of memory, and then the table is
+    /// as it was.
     pub fn add(&mut self, name: Name, means: Means) -> Result<(), AllocError>
-        ensures { OnOk result (self.new ≡ spec.added self.old name means) }
+        ensures added { OnOk result (self.new ≡ spec.added self.old name means) }
+        ensures as_before { OnErr result (self.new ≡ self.old) }
     {
         if self.map.contains_key(&name) {
             return Ok(());

@@ -1,4 +1,5 @@
-use crate::check;
+use crate::functions::check_func;
+use crate::{Scope, Symbols, check};
 use c_lang::{Expr, Fail, Program, Refusal, Stmt, Unit};
 use c_lexer::lex;
 use c_parser::parse;
@@ -349,5 +350,70 @@ fn names_are_resolved(rt: HostRuntime) -> Result<(), AllocError> {
         resolved(rt.alloc(), Unit::New, null)?.as_str(),
         "function == null "
     );
+    Ok(())
+}
+
+fn transformer_scope(alloc: Global) -> Scope {
+    Scope {
+        outside: Symbols::new(alloc),
+        locals: Symbols::new(alloc),
+        told: Symbols::new(alloc),
+        ahead: Symbols::new(alloc),
+        gives: false,
+        xform: true,
+    }
+}
+
+// The check of a transformer's only function, where nothing is visible in the whole unit.
+fn alone(alloc: Global, text: &[u8]) -> Result<(), Fail> {
+    let program = program_of(alloc, Unit::Xform, text)?;
+    let mut scope = transformer_scope(alloc);
+    if let Some(f) = program.funcs.as_slice().first() {
+        check_func(alloc, &mut scope, None, f)?;
+    }
+    Ok(())
+}
+
+fn alone_text(alloc: Global, text: &[u8]) -> Result<String, AllocError> {
+    match alone(alloc, text) {
+        Ok(()) => format!(in alloc; "typed"),
+        Err(Fail::NoMemory) => format!(in alloc; "no memory"),
+        Err(Fail::Refused(why)) => refusal_text(alloc, &why),
+    }
+}
+
+#[test]
+fn transformers_only_compute(rt: HostRuntime) -> Result<(), AllocError> {
+    let cases: [(&[u8], &str); 8] = [
+        (
+            b"void dsu_transform(void) { int x = 1; assert(x); }",
+            "typed",
+        ),
+        (
+            b"void dsu_transform(void) { int dsu_old_main = 1; }",
+            "8 xform:1",
+        ),
+        (b"int help(int dsu_new_x) { return 0; }", "8 xform:1"),
+        (
+            b"void dsu_transform(void) {\nclient_out(1); }",
+            "19 xform:2",
+        ),
+        (
+            b"void dsu_transform(void) {\nclient_out(zz); }",
+            "9 xform:2",
+        ),
+        (
+            b"void dsu_transform(void) {\ndsu_update(1); }",
+            "19 xform:2",
+        ),
+        (
+            b"void dsu_transform(void) {\nint x = client_in(); }",
+            "19 xform:2",
+        ),
+        (b"void help(int (*p)(int)) {\np(1); }", "19 xform:2"),
+    ];
+    for (text, expected) in cases {
+        assert_eq!(rt; alone_text(rt.alloc(), text)?.as_str(), expected);
+    }
     Ok(())
 }
