@@ -65,11 +65,7 @@ fn set_of(alloc: Global, listed: &[u32]) -> Result<Numbers, AllocError>
     Ok(set)
 }
 
-fn permitted(
-    alloc: Global,
-    numbers: Numbers,
-    listed: Option<&[u32]>,
-) -> Result<Numbers, Fail>
+fn permitted(alloc: Global, numbers: Numbers, listed: Option<&[u32]>) -> Result<Numbers, Fail>
     ensures { spec.IsPermitted numbers (option_copied listed.entry) result }
 {
     match listed {

@@ -38,11 +38,7 @@ fn of_old(alloc: Global, old: &[u8], listed: Option<&[u32]>) -> Result<String, A
     }
 }
 
-fn with_client(
-    alloc: Global,
-    client: &[u8],
-    listed: Option<&[u32]>,
-) -> Result<String, AllocError> {
+fn with_client(alloc: Global, client: &[u8], listed: Option<&[u32]>) -> Result<String, AllocError> {
     let old = b"int main(void) {\ndsu_update(1);\nreturn 0; }";
     match (
         program_of(alloc, Unit::Old, old),
@@ -55,10 +51,10 @@ fn with_client(
 
 #[test]
 fn points_of_the_old_program(rt: HostRuntime) -> Result<(), AllocError> {
-    let nested = b"int main(void) {\nif (1) {\ndsu_update(3); } else {\nwhile (1) {\ndsu_update(1); } }\nreturn 0; }\nvoid f(void) {\ndsu_update(4); }".as_slice();
+    let nested =
+        b"int main(void) {\nif (1) {\ndsu_update(3); } else {\nwhile (1) {\ndsu_update(1); } }\nreturn 0; }\nvoid f(void) {\ndsu_update(4); }".as_slice();
     let twice =
-        b"int main(void) {\ndsu_update(2);\ndsu_update(1);\ndsu_update(1);\ndsu_update(2); }"
-            .as_slice();
+        b"int main(void) {\ndsu_update(2);\ndsu_update(1);\ndsu_update(1);\ndsu_update(2); }".as_slice();
     let cases = [
         (nested, None, "1011"),
         (nested, Some([4, 1, 4].as_slice()), "1001"),

@@ -89,8 +89,14 @@ fn all_pairs_of_declarations(rt: HostRuntime) -> Result<(), AllocError> {
 
 #[test]
 fn initial_values_are_not_compared(rt: HostRuntime) -> Result<(), AllocError> {
-    assert_eq!(rt; linked(rt.alloc(), "int x = 1;", "int x = 2;")?.as_str(), "BB--");
-    assert_eq!(rt; linked(rt.alloc(), "int a; int x;", "int x[1]; int a[1];")?.as_str(), "ON--x");
+    assert_eq!(rt;
+        linked(rt.alloc(), "int x = 1;", "int x = 2;")?.as_str(),
+        "BB--"
+    );
+    assert_eq!(rt;
+        linked(rt.alloc(), "int a; int x;", "int x[1]; int a[1];")?.as_str(),
+        "ON--x"
+    );
     Ok(())
 }
 
