@@ -21,5 +21,4 @@ mod WrittenProgram
 mod PlainLaw
 mod PrintLaw
 mod StatementTrees
-mod ResolvedLaw
 mod TypedLaw

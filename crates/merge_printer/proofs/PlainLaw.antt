@@ -12,7 +12,8 @@ use Rattle.c_lang.proofs.TreeLemmas.{expression_of-expr_of, statement_of-Skip, s
 use Rattle.merge_printer.specs.Expressions.{binds, gap, expression_text, expressions_text, more_expressions}
 use Rattle.merge_printer.specs.Statements.{statement_text, statements_text}
 use Rattle.merge_printer.specs.Programs.{func_text, program_text}
-use Rattle.merge_printer.specs.Plain.{plain_expression, plain_statement, plain_statements, stmt_of, stmts_of, plain_func, plain}
+use Rattle.c_types.specs.Plain.{plain_expression, plain_statement, plain_statements, plain_func}
+use Rattle.merge_printer.specs.Plain.{stmt_of, stmts_of, built_func, plain}
 use Rattle.merge_printer.proofs.DeclarationLaw.{body_of, IsBuilt}
 
 -- ---- the way back
@@ -114,10 +115,10 @@ mutual
   same_statements none = refl
   same_statements (more s ss) = ap₂ (λ (a b : Bytes). a ++ b) (same_statement s) (same_statements ss)
 
-same_body : (f : Func) → statements_text (body_of (plain_func f)) ≡ statements_text (body_of f)
+same_body : (f : Func) → statements_text (body_of (built_func (plain_func f))) ≡ statements_text (body_of f)
 same_body f = ap statements_text (statements_back (plain_statements (body_of f))) ∙ same_statements (body_of f)
 
-same_funcs : (fs : List Func) → flat_map func_text (map plain_func fs) ≡ flat_map func_text fs
+same_funcs : (fs : List Func) → flat_map func_text (map built_func (map plain_func fs)) ≡ flat_map func_text fs
 same_funcs [] = refl
 same_funcs (f ∷ fs) = rw (same_body f, same_funcs fs) refl
 
@@ -126,6 +127,6 @@ same_text P = rw (same_funcs P.funcs) refl
 
 -- ---- bodies
 
-pub all_built : (fs : List Func) → All IsBuilt (map plain_func fs)
+pub all_built : (fs : List Func) → All IsBuilt (map built_func (map plain_func fs))
 all_built [] = All-nil IsBuilt
-all_built (f ∷ fs) = All-cons IsBuilt (plain_func f) (map plain_func fs) (ap stmts_of (statements_back (plain_statements (body_of f)))) (all_built fs)
+all_built (f ∷ fs) = All-cons IsBuilt (built_func (plain_func f)) (map built_func (map plain_func fs)) (ap stmts_of (statements_back (plain_statements (body_of f)))) (all_built fs)

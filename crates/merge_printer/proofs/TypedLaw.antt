@@ -11,14 +11,17 @@ use Rattle.c_lang.specs.declared.program.Func.{Func}
 use Rattle.c_lang.specs.declared.program.Program.{Program}
 use Rattle.c_parser.specs.Written.{Parses}
 use Rattle.merge_printer.specs.Checked.{IsCheckedMerge, ChecksAs}
-use Rattle.merge_printer.specs.Plain.{plain_expression, plain_statement, plain_statements, stmts_of, plain_func, plain}
+use Rattle.c_types.specs.Plain.{plain_expression, plain_statement, plain_statements, plain_func, PlainProgram}
+use Rattle.c_types.specs.Programs.{resolved_program}
+use Rattle.c_types.specs.Types.{Types}
+use Rattle.c_types.proofs.PlainLaws.{plain_resolved_program}
+use Rattle.merge_printer.specs.Plain.{stmts_of, built_func, plain}
 use Rattle.merge_printer.specs.Printable.{IsPrintable}
 use Rattle.merge_printer.specs.Programs.{program_text}
 use Rattle.merge_printer.proofs.DeclarationLaw.{FuncReads, body_of}
 use Rattle.merge_printer.proofs.ExpressionLaw.{ExpressionFits}
 use Rattle.merge_printer.proofs.Fitting.{StatementFits, StatementsFit}
 use Rattle.merge_printer.proofs.PrintLaw.{parses_again}
-use Rattle.merge_printer.proofs.ResolvedLaw.{resolved_back}
 use Rattle.merge_printer.proofs.SideLaw.{ExpressionsFit}
 use Rattle.merge_printer.proofs.StatementTrees.{stmts_built}
 use Rattle.merge_printer.proofs.WrittenProgram.{written_reads}
@@ -65,12 +68,12 @@ mutual
   statements_plain none in_loop h = refl
   statements_plain (more s ss) in_loop h = ap₂ more (statement_plain s in_loop h.0) (statements_plain ss in_loop h.1)
 
-func_plain : (f : Func) → FuncReads f → plain_func f ≡ f
+func_plain : (f : Func) → FuncReads f → built_func (plain_func f) ≡ f
 func_plain f h =
     ap (λ body. record { name = f.name; params = f.params; gives = f.gives; body = body; pos = f.pos })
     (ap stmts_of (statements_plain (body_of f) false h.body) ∙ stmts_built f.body)
 
-funcs_plain : (fs : List Func) → All FuncReads fs → map plain_func fs ≡ fs
+funcs_plain : (fs : List Func) → All FuncReads fs → map built_func (map plain_func fs) ≡ fs
 funcs_plain [] h = refl
 funcs_plain (f ∷ fs) h = ap₂ (λ (x : Func) (xs : List Func). x ∷ xs) (func_plain f (All-head FuncReads f fs h)) (funcs_plain fs (All-tail FuncReads f fs h))
 
@@ -79,11 +82,17 @@ source_plain P h =
     ap (λ (fs : List Func). record { globals = P.globals; protos = P.protos; funcs = fs; early = P.early })
     (funcs_plain P.funcs (written_reads P h.written h.accepted).funcs)
 
+-- a typed program and its resolved form have the same plain form
+resolved_back : (P : Program) → Types Merge P → plain (resolved_program P) ≡ plain P
+resolved_back P h =
+    ap₂ (λ (Q : PlainProgram) early. record { globals = Q.globals; protos = Q.protos; funcs = map built_func Q.funcs; early = early })
+    (plain_resolved_program Merge P h) (sym h.early)
+
 -- ---- the law
 
 checks_again : (kept : Program) → IsCheckedMerge kept → ChecksAs (program_text kept) kept
 checks_again kept h =
-    let same : plain kept ≡ h.source = ap plain h.resolved ∙ resolved_back Merge h.source h.typed ∙ source_plain h.source h.printable in
+    let same : plain kept ≡ h.source = ap plain h.resolved ∙ resolved_back h.source h.typed ∙ source_plain h.source h.printable in
     record {
       program = h.source;
       parses = subst (λ (P : Program). Parses Merge 72 (program_text kept) P) same (parses_again kept (subst IsPrintable (sym same) h.printable));
