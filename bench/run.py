@@ -11,8 +11,8 @@ than 500,000 steps a second, or where the long run of it takes more than 1 MB mo
 """
 import os, pathlib, shutil, subprocess, sys
 
-PROGRAM = '''//! Reads a number of steps, a line feed and a merged text from standard input, makes the steps, and prints
-//! how many were made before the run ended.
+PROGRAM = '''//! Reads a number of steps, a line feed and a merged text from standard input, makes the
+//! steps, and prints how many were made before the run ended.
 #![tactic(auto)]
 
 use c_lang::{Program, Unit};
@@ -147,7 +147,8 @@ def main():
         short, before = measure(program, folder / "text", text, few)
         long, after = measure(program, folder / "text", text, many)
         speed = (many - few) / (long - short)
-        print(f"{name}: {speed:,.0f} steps a second; memory {before / 1e6:.1f} MB after {few:,} steps, {after / 1e6:.1f} MB after {many:,}")
+        print(f"{name}: {speed:,.0f} steps a second")
+        print(f"  memory: {before / 1e6:.1f} MB after {few:,} steps, {after / 1e6:.1f} MB after {many:,}")
         if name == "a loop":
             good = good and speed >= 500_000
         good = good and after - before <= 1_000_000

@@ -4,7 +4,7 @@ use c_lang::{
 };
 use c_lexer::lex;
 use c_parser::parse;
-use plain_run::RunError;
+use plain_run::{Answers, RunError};
 use sqlite_items::Items;
 use std::alloc::{AllocError, Global};
 
@@ -308,5 +308,16 @@ fn pointers_are_called(rt: HostRuntime) -> Result<(), AllocError> {
     let program = pointer_program(rt.alloc(), Some(same))?;
     let said = outcome(rt.alloc(), &program, &[], 100)?;
     assert_eq!(rt; said.as_str(), "end 4, ended");
+    Ok(())
+}
+
+#[test]
+fn answers_are_taken_in_order(rt: HostRuntime) -> Result<(), AllocError> {
+    let mut answers = Answers::new(vec![in rt.alloc(); 5, -1]?);
+    assert_eq!(rt; answers.left(), 2);
+    assert_eq!(rt; answers.next(), Some(5));
+    assert_eq!(rt; answers.next(), Some(-1));
+    assert_eq!(rt; answers.left(), 0);
+    assert_eq!(rt; answers.next(), None);
     Ok(())
 }
