@@ -1,10 +1,9 @@
 -- Resolution changes nothing of what a typed program is without it.
-use Rattle.std.proofs.Common.{◌≡◌, ◌∙◌, ℕ, zero, suc, ℤ, pos, negsuc, Bool, true, false, List, [], ◌∷◌, map, Option, Some, None, refl, sym, ap, ap₂, subst}
+use Rattle.std.proofs.Common.{◌≡◌, ◌∙◌, ℕ, zero, suc, ℤ, pos, negsuc, Bool, true, false, List, [], ◌∷◌, map, Option, Some, None, refl, sym, ap, ap₂}
 use Rattle.std.specs.Option.{option_map}
 use Rattle.c_lang.specs.Names.{Bytes}
-use Rattle.c_lang.specs.Trees.{Expression, literal, variable, element, function, null, negation, logical_not, binary, expression_of, Statement, Statements, statement_of, statements, skip, set, set_element, call, call_by, if_else, while_loop, break_loop, return_with, assert_that, input, output, point, choice, force, pick, none, more}
+use Rattle.c_lang.specs.Trees.{Expression, literal, variable, element, function, null, negation, logical_not, binary, expression_of, Statement, Statements, statement_of, skip, set, set_element, call, call_by, if_else, while_loop, break_loop, return_with, assert_that, input, output, point, choice, force, pick, none, more}
 use Rattle.c_lang.specs.declared.expr.Expr.{Expr}
-use Rattle.c_lang.specs.declared.expr.Expr.TheVariants as expr
 use Rattle.c_lang.specs.declared.unit.Unit.{Unit}
 use Rattle.c_lang.specs.declared.unit.Pos.{Pos}
 use Rattle.c_lang.specs.declared.stmt.Dest.{Dest}
@@ -18,14 +17,14 @@ use Rattle.c_types.specs.declared.means.Means.TheVariants.{Cell, Row, Code, Refu
 use Rattle.c_types.specs.declared.scope.Scope.{Scope}
 use Rattle.c_types.specs.declared.scope.Block.{Block}
 use Rattle.c_types.specs.Bodies.{body_of}
-use Rattle.c_types.specs.Names.{Names, Entries, found}
-use Rattle.c_types.specs.Expressions.{kind_of, own_kind, or_int, place_of, resolved_name, resolved_literal, resolved}
+use Rattle.c_types.specs.Names.{Names, Entries}
+use Rattle.c_types.specs.Expressions.{own_kind, place_of, resolved_name, resolved_literal, resolved}
 use Rattle.c_types.specs.Scopes.{names_of}
 use Rattle.c_types.specs.Calls.{place_in, element_kind, ints, resolved_args, resolved_call}
-use Rattle.c_types.specs.Statements.{scope_after, block_in, entered, after_block, resolved_statement, resolved_list, resolved_block}
+use Rattle.c_types.specs.Statements.{scope_after, block_in, entered, after_block, resolved_statement, resolved_list}
 use Rattle.c_types.specs.Functions.{body_scope, resolved_func}
 use Rattle.c_types.specs.Programs.{with_func, with_globals, outside_of, resolved_funcs, resolved_program}
-use Rattle.c_types.specs.Typing.{IsValue, IsFunction, IsRow, IsLiteral, IsTyped, AreArguments, IsCall, IsCallBy, IsReturn, IsTypedStatement, AreTyped}
+use Rattle.c_types.specs.Typing.{IsValue, IsFunction, IsLiteral, IsTyped, AreArguments, IsCall, IsCallBy, IsReturn, IsTypedStatement, AreTyped}
 use Rattle.c_types.specs.Types.{IsTypedFunc, AreTypedFuncs, Types}
 use Rattle.c_types.specs.Plain.{plain_expression, plain_statement, plain_statements, plain_func, plain_program}
 use Rattle.c_types.proofs.StatementsTyped.{row_kind}

@@ -1,8 +1,7 @@
 -- The typing of functions: the head, then the body.
-use Rattle.std.specs.Prelude.{codes, ℕ, nat_lt, Bool, true, false, not, ◌&&◌, ◌||◌, if◌then◌else◌, List, [], ◌∷◌, length, map, Option, Some, None, Result, bytes_eq}
+use Rattle.std.specs.Prelude.{codes, ℕ, nat_lt, Bool, true, false, not, ◌&&◌, ◌||◌, if◌then◌else◌, List, [], ◌∷◌, length, Option, Some, None, Result, bytes_eq}
 use Rattle.c_lang.specs.Names.{Bytes}
 use Rattle.c_types.specs.Bodies.{body_of}
-use Rattle.c_lang.specs.Trees.{statement_of, statements}
 use Rattle.c_lang.specs.declared.refusal.Refusal.{Refusal}
 use Rattle.c_lang.specs.declared.refusal.Fail.{Fail}
 use Rattle.c_lang.specs.declared.stmt.Kind.{Kind}

@@ -1,6 +1,6 @@
 -- Programs without what resolution adds: a function's name as a value is a variable again, null the
 -- literal 0, and a call through a pointer a call.
-use Rattle.std.specs.Prelude.{ℕ, pos, Bool, List, map, Option}
+use Rattle.std.specs.Prelude.{pos, Bool, List, map}
 use Rattle.std.specs.Option.{option_map}
 use Rattle.c_lang.specs.Names.{Bytes}
 use Rattle.c_lang.specs.Trees.{Expression, literal, variable, element, function, null, negation, logical_not, binary, Statement, Statements, skip, set, set_element, call, call_by, if_else, while_loop, break_loop, return_with, assert_that, input, output, point, choice, force, pick, none, more}

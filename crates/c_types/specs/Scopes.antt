@@ -1,5 +1,5 @@
 -- What is in scope, and which declarations of locals are refused.
-use Rattle.std.specs.Prelude.{codes, nat_eq, ◌&&◌, ℕ, nat_lt, Bool, false, not, if◌then◌else◌, Option, Some, None, ◌||◌, true}
+use Rattle.std.specs.Prelude.{codes, nat_eq, ◌&&◌, ℕ, nat_lt, Bool, false, not, if◌then◌else◌, Option, Some, None, ◌||◌}
 use Rattle.std.specs.Option.{is_some, option_or}
 use Rattle.std.specs.List.{starts_with}
 use Rattle.c_lang.specs.Names.{Bytes}

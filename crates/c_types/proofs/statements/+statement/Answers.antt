@@ -1,6 +1,4 @@
-use Rattle.std.proofs.Common.{map}
 use Rattle.c_types.specs.Bodies.{body_of}
-use Rattle.c_lang.specs.Trees.{statement_of, statements}
 use Rattle.c_types.proofs.BlockLaws.{block_left}
 use Rattle.c_types.proofs.statements.+statement.Goals as goal
 

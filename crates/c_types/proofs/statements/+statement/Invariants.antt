@@ -1,6 +1,5 @@
-use Rattle.std.proofs.Common.{◌≡◌, ◌++◌, drop, map}
+use Rattle.std.proofs.Common.{◌≡◌, ◌++◌, drop}
 use Rattle.c_types.specs.Bodies.{body_of}
-use Rattle.c_lang.specs.Trees.{statement_of, statements}
 use Rattle.c_types.specs.Statements as spec
 use Rattle.c_types.proofs.statements.+statement.Given as goal
 
