@@ -127,3 +127,16 @@ fn positions_are_kept(rt: HostRuntime) -> Result<(), AllocError> {
     }
     Ok(())
 }
+
+// The merged text of two versions that share one number round an update point.
+const ONE_UPDATE: &[u8] =
+    b"#include \"dsu.h\"\n#line 3 \"old\"\nint dsu_old_main(void);\n#line 3 \"new\"\nint dsu_new_main(void);\n#line 3 \"old\"\nint dsu_any_main(void);\n#line 1 \"xform\"\nvoid dsu_xform_dsu_transform(void);\n#line 3 \"old\"\nint main(void);\n#line 1 \"merge\"\nint dsu_now = 0;\n#line 2 \"old\"\nint dsu_both_n = 1;\n#line 3 \"old\"\nint dsu_old_main(void) {\n#line 4 \"old\"\nclient_out(dsu_both_n);\n#line 5 \"old\"\nif (dsu_now == 0) {\n#line 5 \"old\"\nint dsu_c = dsu_choice(1);\n#line 5 \"old\"\nif (dsu_c != 0) {\n#line 5 \"old\"\ndsu_now = 1;\n#line 5 \"old\"\ndsu_xform_dsu_transform();\n}\n}\n#line 6 \"old\"\nclient_out(dsu_both_n);\n#line 7 \"old\"\nreturn 0;\n}\n#line 3 \"new\"\nint dsu_new_main(void) {\n#line 4 \"new\"\nclient_out(dsu_both_n);\n#line 5 \"new\"\n;\n#line 6 \"new\"\nclient_out(dsu_both_n);\n#line 7 \"new\"\nreturn 0;\n}\n#line 3 \"old\"\nint dsu_any_main(void) {\n#line 3 \"old\"\nif (dsu_now != 0) {\n#line 3 \"old\"\nint dsu_r = dsu_new_main();\n#line 3 \"old\"\nreturn dsu_r;\n} else {\n#line 3 \"old\"\nint dsu_r = dsu_old_main();\n#line 3 \"old\"\nreturn dsu_r;\n}\n}\n#line 1 \"xform\"\nvoid dsu_xform_dsu_transform(void) {\n#line 2 \"xform\"\ndsu_both_n = 7;\n}\n#line 3 \"old\"\nint main(void) {\n#line 3 \"old\"\nint dsu_r = dsu_old_main();\n#line 3 \"old\"\nreturn dsu_r;\n}\n";
+
+#[test]
+fn merged_text_is_kept(rt: HostRuntime) -> Result<(), AllocError> {
+    match printed(rt.alloc(), Unit::Merge, ONE_UPDATE) {
+        Ok(again) => assert_eq!(rt; again.as_slice(), ONE_UPDATE),
+        Err(_) => assert!(rt; false),
+    }
+    Ok(())
+}
