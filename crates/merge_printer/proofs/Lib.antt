@@ -22,3 +22,4 @@ mod PlainLaw
 mod PrintLaw
 mod StatementTrees
 mod TypedLaw
+mod HeightLaw

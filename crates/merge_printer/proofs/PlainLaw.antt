@@ -52,7 +52,7 @@ mutual
 
 -- ---- texts
 
-same_binds : (e : Expression) → binds (plain_expression e) ≡ binds e
+pub same_binds : (e : Expression) → binds (plain_expression e) ≡ binds e
 same_binds (literal z) = refl
 same_binds (variable x) = refl
 same_binds (element a i) = refl

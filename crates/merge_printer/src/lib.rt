@@ -11,4 +11,4 @@ mod text;
 mod typed;
 
 pub use program::{print_program, program_text};
-pub use typed::print;
+pub use typed::{height_is_kept, print};

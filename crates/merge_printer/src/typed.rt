@@ -1,6 +1,11 @@
 //! Typed programs.
 
 ghost use Rattle.std.specs.Prelude.{◌≡◌, IfOk};
+ghost use Rattle.c_lang.specs.declared.program.Program.{Program};
+ghost use Rattle.c_lang.specs.declared.unit.Unit.{Unit};
+ghost use Rattle.c_types.specs.Programs.{resolved_program};
+ghost use Rattle.c_types.specs.Types.{Types};
+ghost use Rattle.merge_printer.specs.Heights.{funcs_height};
 ghost use Rattle.merge_printer.specs.Checked.{IsCheckedMerge, ChecksAs};
 ghost use Rattle.merge_printer.specs.Programs.{program_text};
 
@@ -21,3 +26,8 @@ pub fn print(alloc: Global, program: &Typed) -> Result<Vec<u8>, AllocError>
 {
     program::program_text(alloc, program.program())
 }
+
+/// A typed program is as high as the program that was checked.
+pub fn height_is_kept()
+    ensures { (unit : Unit) (program : Program) → Types unit program → funcs_height (resolved_program program).funcs ≡ funcs_height program.funcs }
+{}
