@@ -10,7 +10,8 @@ machine only adds to it. This script ends with status 1 where a text of twice th
 times as long, where fewer than 20 MB are read a second, or where a byte of text takes more than 80 bytes
 of memory.
 """
-import os, pathlib, shutil, subprocess, sys
+import pathlib, sys
+from measuring import build, measure, merged
 
 PROGRAM = '''//! Reads a merged text from standard input, and prints how many tokens it has.
 #![tactic(auto)]
@@ -33,72 +34,15 @@ fn main(rt: HostRuntime) -> io::Result<()> {
 '''
 
 
-def function(i):
-    """The merged text of a function with a point, a loop and outputs."""
-    return (
-        f'#line {i} "old"\nint dsu_old_work{i}(int count, int limit) {{\n'
-        f'#line {i + 1} "old"\nif (dsu_now == 0) {{\n'
-        f'#line {i + 1} "old"\nint dsu_c = dsu_choice({i % 97 + 1});\n'
-        f'#line {i + 1} "old"\nif (dsu_c != 0) {{\n'
-        f'#line {i + 1} "old"\ndsu_now = 1;\n'
-        f'#line {i + 1} "old"\ndsu_xform_dsu_transform();\n}}\n}}\n'
-        f'#line {i + 2} "old"\nwhile (count + {i} * 3 <= limit && dsu_both_table[count - 1] != {i * 7919 % 2147483647}) {{\n'
-        f'#line {i + 3} "old"\ncount = count + 1;\n}}\n'
-        f'#line {i + 4} "old"\nclient_out(dsu_both_total - (count - {i}));\n'
-        f'#line {i + 5} "old"\nreturn count;\n}}\n'
-    ).encode()
-
-
-def merged(size):
-    """Whole functions, up to about this size."""
-    pieces, length = [b'#include "dsu.h"\n'], 0
-    while length < size:
-        pieces.append(function(len(pieces)))
-        length += len(pieces[-1])
-    return b"".join(pieces)
-
-
-def build(folder):
-    root = pathlib.Path(__file__).resolve().parent.parent
-    for crate in ["c_lang", "c_lexer"]:
-        copy = folder / "crates" / crate
-        shutil.rmtree(copy, ignore_errors=True)
-        shutil.copytree(root / "crates" / crate, copy, ignore=shutil.ignore_patterns("out"))
-    source = folder / "crates" / "lex_bench" / "src"
-    source.mkdir(parents=True, exist_ok=True)
-    (source / "main.rt").write_text(PROGRAM)
-    (folder / "crates.txt").write_text(
-        "c_lang: sqlite_items\nc_lexer: c_lang sqlite_items\nlex_bench: c_lang c_lexer sqlite_items\n"
-    )
-    subprocess.run(["rt", "run"], cwd=source.parent, check=True, stdout=subprocess.DEVNULL, stderr=subprocess.DEVNULL)
-    return source.parent / "out" / "lex_bench"
-
-
-def measure(program, path):
-    """The tokens, the quickest of fifteen runs in seconds, and the largest run's memory in bytes."""
-    times, memory, count = [], 0, 0
-    for _ in range(15):
-        with open(path, "rb") as text:
-            run = subprocess.Popen([program], stdin=text, stdout=subprocess.PIPE)
-            said = run.stdout.read()
-        _, status, used = os.wait4(run.pid, 0)
-        if status:
-            sys.exit(f"the program ended with {status}")
-        count = int(said)
-        times.append(used.ru_utime + used.ru_stime)
-        memory = max(memory, used.ru_maxrss * 1024)
-    return count, min(times), memory
-
-
 def main():
     folder = pathlib.Path(sys.argv[1])
-    program = build(folder)
+    [program] = build(folder, ["c_lang", "c_lexer"], [("lex_bench", "c_lang c_lexer sqlite_items", PROGRAM)])
     good, before = True, None
     for megabytes in [1, 2, 4]:
         text = merged(megabytes * 1_000_000)
         path = folder / "text"
         path.write_bytes(text)
-        count, seconds, memory = measure(program, path)
+        count, seconds, memory = measure(program, path, 15)
         speed, a_byte = len(text) / seconds / 1e6, memory / len(text)
         ratio = seconds / before if before else None
         print(

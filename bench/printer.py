@@ -10,7 +10,7 @@ program, and the quickest runs count. This script ends with status 1 where a tex
 more than 2.3 times as long, or where fewer than 20 MB are printed a second.
 """
 import pathlib, sys
-from parser import CRATES, build, measure, merged
+from measuring import build, measure, merged
 
 PRINTS = '''//! Reads a merged text from standard input, prints its program TIMES times, and says how long the last text is.
 #![tactic(auto)]
@@ -47,13 +47,14 @@ fn main(rt: HostRuntime) -> io::Result<()> {
     Ok(())
 }
 '''
+CRATES = ["c_lang", "c_lexer", "c_expressions", "c_statements", "c_parser", "c_types", "merge_printer"]
 USES = "c_lang c_lexer c_parser merge_printer sqlite_items"
 PROGRAMS = [("print_once", USES, PRINTS.replace("TIMES", "1")), ("print_often", USES, PRINTS.replace("TIMES", "11"))]
 
 
 def main():
     folder = pathlib.Path(sys.argv[1])
-    once, often = build(folder, CRATES + ["c_types", "merge_printer"], PROGRAMS)
+    once, often = build(folder, CRATES, PROGRAMS)
     good, before = True, None
     for megabytes in [1, 2, 4]:
         text = merged(megabytes * 1_000_000)

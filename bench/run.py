@@ -9,7 +9,8 @@ three times with 100,000 and with 10,000,000 steps, and the difference of the qu
 counts, so reading and parsing don't. This script ends with status 1 where a loop over a few names makes fewer
 than 500,000 steps a second, or where the long run of it takes more than 1 MB more memory than the short one.
 """
-import os, pathlib, shutil, subprocess, sys
+import pathlib, sys
+from measuring import build, measure
 
 PROGRAM = '''//! Reads a number of steps, a line feed and a merged text from standard input, makes the
 //! steps, and prints how many were made before the run ended.
@@ -107,45 +108,23 @@ i = j % 1000;
 """
 
 
-def build(folder):
-    root = pathlib.Path(__file__).resolve().parent.parent
-    lines = [line for line in (root / "crates.txt").read_text().splitlines() if line.split(":")[0] in CRATES]
-    for crate in CRATES:
-        copy = folder / "crates" / crate
-        shutil.rmtree(copy, ignore_errors=True)
-        shutil.copytree(root / "crates" / crate, copy, ignore=shutil.ignore_patterns("out"))
-    lines.append("run_bench: c_lang c_lexer c_parser plain_run")
-    (folder / "crates.txt").write_text("\n".join(lines) + "\n")
-    crate = folder / "crates" / "run_bench"
-    (crate / "src").mkdir(parents=True, exist_ok=True)
-    (crate / "src" / "main.rt").write_text(PROGRAM)
-    subprocess.run(["rt", "run"], cwd=crate, check=True, stdin=subprocess.DEVNULL, stdout=subprocess.DEVNULL)
-    return crate / "out" / "run_bench"
-
-
-def measure(program, path, text, steps):
+def timed(program, path, text, steps):
     """The quickest of three runs in seconds, and the largest run's memory in bytes."""
     path.write_bytes(b"%d\n" % steps + text)
-    times, memory = [], 0
-    for _ in range(3):
-        with open(path, "rb") as source:
-            run = subprocess.Popen([program], stdin=source, stdout=subprocess.PIPE)
-            said = run.stdout.read()
-        _, status, used = os.wait4(run.pid, 0)
-        if status or int(said) != steps:
-            sys.exit(f"the program ended with {status} and said {said}")
-        times.append(used.ru_utime + used.ru_stime)
-        memory = max(memory, used.ru_maxrss * 1024)
-    return min(times), memory
+    made, seconds, memory = measure(program, path, 3)
+    if made != steps:
+        sys.exit(f"the program made {made} steps")
+    return seconds, memory
 
 
 def main():
     folder = pathlib.Path(sys.argv[1])
-    program, good = build(folder), True
+    [program] = build(folder, CRATES, [("run_bench", "c_lang c_lexer c_parser plain_run", PROGRAM)])
+    good = True
     few, many = 100_000, 10_000_000
     for name, text in [("a loop", LOOP), ("a loop of calls", CALLS)]:
-        short, before = measure(program, folder / "text", text, few)
-        long, after = measure(program, folder / "text", text, many)
+        short, before = timed(program, folder / "text", text, few)
+        long, after = timed(program, folder / "text", text, many)
         speed = (many - few) / (long - short)
         print(f"{name}: {speed:,.0f} steps a second")
         print(f"  memory: {before / 1e6:.1f} MB after {few:,} steps, {after / 1e6:.1f} MB after {many:,}")

@@ -11,7 +11,8 @@ times with each program, and the quickest runs count, since other work on the ma
 This script ends with status 1 where twice as many names take more than 2.6 times as long, or where a
 program isn't typed.
 """
-import os, pathlib, shutil, subprocess, sys
+import pathlib, sys
+from measuring import build, measure
 
 PARSES = '''//! Reads a merged text from standard input, and prints how many functions it has.
 #![tactic(auto)]
@@ -47,6 +48,10 @@ CHECKS = PARSES.replace("how many functions it has", "how many functions are typ
 )
 
 CRATES = ["c_lang", "c_lexer", "c_expressions", "c_statements", "c_parser", "c_types"]
+PROGRAMS = [
+    ("parse_bench", "c_lang c_lexer c_parser sqlite_items", PARSES),
+    ("check_bench", "c_lang c_lexer c_parser c_types sqlite_items", CHECKS),
+]
 
 
 def program(times):
@@ -66,50 +71,15 @@ def program(times):
     return "\n".join(lines).encode()
 
 
-def build(folder):
-    root = pathlib.Path(__file__).resolve().parent.parent
-    lines = [line for line in (root / "crates.txt").read_text().splitlines() if line.split(":")[0] in CRATES]
-    for crate in CRATES:
-        copy = folder / "crates" / crate
-        shutil.rmtree(copy, ignore_errors=True)
-        shutil.copytree(root / "crates" / crate, copy, ignore=shutil.ignore_patterns("out"))
-    lines += ["parse_bench: c_lang c_lexer c_parser sqlite_items", "check_bench: c_lang c_lexer c_parser c_types sqlite_items"]
-    (folder / "crates.txt").write_text("\n".join(lines) + "\n")
-    texts = {"parse_bench": PARSES, "check_bench": CHECKS}
-    for name, text in texts.items():
-        source = folder / "crates" / name / "src"
-        source.mkdir(parents=True, exist_ok=True)
-        (source / "main.rt").write_text(text)
-    for name in texts:
-        crate = folder / "crates" / name
-        subprocess.run(["rt", "run"], cwd=crate, check=True, stdout=subprocess.DEVNULL, stderr=subprocess.DEVNULL)
-    return [folder / "crates" / name / "out" / name for name in texts]
-
-
-def measure(program, path):
-    """What it counted, and the quickest of nine runs in seconds."""
-    times, count = [], 0
-    for _ in range(9):
-        with open(path, "rb") as text:
-            run = subprocess.Popen([program], stdin=text, stdout=subprocess.PIPE)
-            said = run.stdout.read()
-        _, status, used = os.wait4(run.pid, 0)
-        if status:
-            sys.exit(f"the program ended with {status}")
-        count = int(said)
-        times.append(used.ru_utime + used.ru_stime)
-    return count, min(times)
-
-
 def main():
     folder = pathlib.Path(sys.argv[1])
-    parses, checks = build(folder)
+    parses, checks = build(folder, CRATES, PROGRAMS)
     good, before = True, None
     for times in [1, 2, 4]:
         path = folder / "text"
         path.write_bytes(program(times))
-        _, parsing = measure(parses, path)
-        count, whole = measure(checks, path)
+        _, parsing, _ = measure(parses, path)
+        count, whole, _ = measure(checks, path)
         seconds = whole - parsing
         ratio = seconds / before if before else None
         print(
