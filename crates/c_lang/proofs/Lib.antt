@@ -1,2 +1,1 @@
-pub mod Simulation
 pub mod TreeLemmas

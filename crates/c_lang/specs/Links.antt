@@ -1,12 +1,12 @@
 -- How the two versions are linked by name.
-use Rattle.std.specs.Prelude.{Bool, true, false, ◌&&◌, ◌==◌, if◌then◌else◌, List, [], ◌∷◌, length, map, Option, Some, is_some}
+use Rattle.std.specs.Prelude.{Bool, true, false, ◌&&◌, ◌==◌, if◌then◌else◌, List, length, map, Option, Some, is_some}
 use Rattle.c_lang.specs.Names.{Bytes}
+use Rattle.c_lang.specs.Kinds.{same_kinds, same_result}
 use Rattle.c_lang.specs.Programs.{global_named, func_named}
 use Rattle.c_lang.specs.Version.{Version}
 use Rattle.c_lang.specs.Version as version
 use Rattle.c_lang.specs.Home.{Home, Both, Old, New, Unlinked}
 use Rattle.c_lang.specs.declared.stmt.Kind.{Kind}
-use Rattle.c_lang.specs.declared.stmt.Kind.TheVariants as kind
 use Rattle.c_lang.specs.declared.program.Shape.{Shape}
 use Rattle.c_lang.specs.declared.program.Shape.TheVariants as shape
 use Rattle.c_lang.specs.declared.program.GlobalVar.{GlobalVar}
@@ -20,23 +20,8 @@ same_shape (shape.Arr ys) (shape.Arr zs) = length ys == length zs
 same_shape (shape.Fp m f) (shape.Fp n g) = m == n
 same_shape _ _ = false
 
-abbrev pub same_kind : Kind → Kind → Bool
-same_kind kind.Int kind.Int = true
-same_kind (kind.Fp m) (kind.Fp n) = m == n
-same_kind _ _ = false
-
-abbrev pub same_kinds : List Kind → List Kind → Bool
-same_kinds [] [] = true
-same_kinds (k ∷ ks) (l ∷ ls) = same_kind k l && same_kinds ks ls
-same_kinds _ _ = false
-
 abbrev pub kinds_of : Func → List Kind
 kinds_of f = map (λ (p : Kind × Bytes). p.0) f.params
-
-abbrev pub same_result : Bool → Bool → Bool
-same_result true gives = gives
-same_result false true = false
-same_result false false = true
 
 -- the same kinds of parameters, and both with a result or both without
 abbrev pub same_head : Func → Func → Bool

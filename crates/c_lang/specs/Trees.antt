@@ -12,6 +12,7 @@ use Rattle.c_lang.specs.declared.expr.Expr.TheVariants as expr
 use Rattle.c_lang.specs.declared.stmt.Dest.{Dest}
 use Rattle.c_lang.specs.declared.stmt.Stmt.{Stmt, fold-Stmt}
 use Rattle.c_lang.specs.declared.stmt.Stmt.TheOpen.{Stmt-F}
+use Rattle.c_lang.specs.declared.stmt.Stmt.TheVariants as stmt
 
 pub data Expression : Type 0 where
   literal : ℤ → Expression
@@ -94,3 +95,27 @@ statement_step (Stmt-F.Pick p a b) = pick p a b
 
 abbrev pub statement_of : Stmt → Statement
 statement_of = fold-Stmt Statement statement_step
+
+-- the way back
+abbrev mutual
+  pub stmt_of : Statement → Stmt
+  stmt_of (skip p) = stmt.Skip p
+  stmt_of (set p d e) = stmt.Set p d (expr_of e)
+  stmt_of (set_element p a i e) = stmt.SetElem p a (expr_of i) (expr_of e)
+  stmt_of (call p d f es) = stmt.Call p d f (map expr_of es)
+  stmt_of (call_by p d x es) = stmt.CallBy p d x (map expr_of es)
+  stmt_of (if_else p e a b) = stmt.If p (expr_of e) (stmts_of a) (stmts_of b)
+  stmt_of (while_loop p e a) = stmt.While p (expr_of e) (stmts_of a)
+  stmt_of (break_loop p) = stmt.Break p
+  stmt_of (return_with p e) = stmt.Return p (option_map expr_of e)
+  stmt_of (assert_that p e) = stmt.Assert p (expr_of e)
+  stmt_of (input p d) = stmt.Input p d
+  stmt_of (output p e) = stmt.Output p (expr_of e)
+  stmt_of (point p k) = stmt.Point p k
+  stmt_of (choice p d k) = stmt.Choice p d k
+  stmt_of (force p) = stmt.Force p
+  stmt_of (pick p a b) = stmt.Pick p (stmt_of a) (stmt_of b)
+
+  pub stmts_of : Statements → List Stmt
+  stmts_of none = []
+  stmts_of (more s ss) = stmt_of s ∷ stmts_of ss

@@ -16,5 +16,5 @@ pub use expr::{Expr, Op};
 pub use name::Name;
 pub use program::{Func, GlobalVar, Program, Proto, Shape};
 pub use refusal::{Fail, Refusal};
-pub use stmt::{Dest, Kind, Stmt};
+pub use stmt::{Dest, Kind, Stmt, same_kinds, same_result};
 pub use unit::{Pos, Unit, limit_of};

@@ -1,3 +1,6 @@
+ghost use Rattle.std.specs.Prelude.{◌≡◌};
+ghost use Rattle.c_lang.specs.Kinds as spec;
+
 use crate::{Expr, Name, Pos};
 use sqlite_items::{Boxed, Items};
 
@@ -6,6 +9,39 @@ use sqlite_items::{Boxed, Items};
 pub enum Kind {
     Int,
     Fp(u8),
+}
+
+impl Kind {
+    /// Whether both are the same kind.
+    pub fn same_as(self, other: Kind) -> bool
+        ensures { result ≡ spec.same_kind self other }
+    {
+        match (self, other) {
+            (Kind::Int, Kind::Int) => true,
+            (Kind::Fp(m), Kind::Fp(n)) => m == n,
+            _ => false,
+        }
+    }
+}
+
+/// Whether both lists have the same kinds in the same order.
+pub fn same_kinds(left: &[Kind], right: &[Kind]) -> bool
+    ensures { result ≡ spec.same_kinds left.now right.now }
+{
+    let [first, left @ ..] = left else {
+        return right.is_empty();
+    };
+    let [second, right @ ..] = right else {
+        return false;
+    };
+    first.same_as(*second) && same_kinds(left, right)
+}
+
+/// Whether both functions give a value, or neither does.
+pub fn same_result(left: bool, right: bool) -> bool
+    ensures { result ≡ spec.same_result left right }
+{
+    if left { right } else { !right }
 }
 
 /// Where a result goes: nowhere, into a name that stands already, or into a local declared here.

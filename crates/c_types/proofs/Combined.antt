@@ -7,7 +7,8 @@ use Rattle.c_lang.specs.declared.unit.Pos.{Pos}
 use Rattle.c_lang.specs.declared.refusal.Refusal.{Refusal}
 use Rattle.c_lang.specs.declared.stmt.Kind.{Kind}
 use Rattle.c_lang.specs.declared.stmt.Kind.TheVariants.{Int, Fp}
-use Rattle.c_types.specs.Names.{smaller, same_kind, fits}
+use Rattle.c_lang.specs.Kinds.{same_kind}
+use Rattle.c_types.specs.Names.{smaller, fits}
 use Rattle.c_types.specs.Checks.{at_place, first}
 
 pub some_none : {X : Type 0} (x : X) → ◌≡◌ {A = Option X} (Some x) None → ⊥

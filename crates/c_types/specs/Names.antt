@@ -1,10 +1,10 @@
 -- What names stand for, and the numbers that refuse their use.
-use Rattle.std.specs.Prelude.{ℕ, nat_lt, nat_le, ◌==◌, Bool, true, false, if◌then◌else◌, List, [], ◌∷◌, ◌++◌, Option, Some, None, bytes_eq, position}
+use Rattle.std.specs.Prelude.{ℕ, nat_lt, nat_le, Bool, true, false, if◌then◌else◌, List, [], ◌∷◌, ◌++◌, Option, Some, None, bytes_eq, position}
 use Rattle.std.specs.Option.{is_some}
 use Rattle.std.specs.Map.{lookup, keys_of}
 use Rattle.c_lang.specs.Names.{Bytes}
+use Rattle.c_lang.specs.Kinds.{same_kind}
 use Rattle.c_lang.specs.declared.stmt.Kind.{Kind}
-use Rattle.c_lang.specs.declared.stmt.Kind.TheVariants.{Int, Fp}
 use Rattle.c_types.specs.declared.means.Means.{Means}
 use Rattle.c_types.specs.declared.means.Means.TheVariants.{Refused}
 
@@ -49,12 +49,6 @@ abbrev pub smaller : Option ℕ → Option ℕ → Option ℕ
 smaller None b = b
 smaller (Some m) None = Some m
 smaller (Some m) (Some n) = if nat_lt n m then Some n else Some m
-
-abbrev pub same_kind : Kind → Kind → Bool
-same_kind Int Int = true
-same_kind (Fp m) (Fp n) = m == n
-same_kind Int (Fp n) = false
-same_kind (Fp m) Int = false
 
 -- 10 where a kind doesn't fit its place
 abbrev pub fits : Kind → Kind → Option ℕ

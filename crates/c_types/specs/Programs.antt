@@ -2,6 +2,7 @@
 use Rattle.std.specs.Prelude.{ℕ, ◌-◌, nat_lt, Bool, true, false, not, ◌&&◌, ◌||◌, if◌then◌else◌, List, [], ◌∷◌, length, Option, Some, None, Result}
 use Rattle.std.specs.Option.{is_some}
 use Rattle.c_lang.specs.Names.{Bytes}
+use Rattle.c_lang.specs.Kinds.{same_kinds, same_result}
 use Rattle.c_lang.specs.declared.unit.Unit.{Unit}
 use Rattle.c_lang.specs.declared.unit.Unit.TheVariants as unit
 use Rattle.c_lang.specs.declared.unit.Pos.{Pos}
@@ -17,7 +18,7 @@ use Rattle.c_lang.specs.declared.program.Func.{Func}
 use Rattle.c_lang.specs.declared.program.Program.{Program}
 use Rattle.c_types.specs.declared.means.Means.{Means}
 use Rattle.c_types.specs.declared.means.Means.TheVariants.{Cell, Row, Code, Refused}
-use Rattle.c_types.specs.Names.{Entries, found, meant, added, smaller, same_kind}
+use Rattle.c_types.specs.Names.{Entries, found, meant, added, smaller}
 use Rattle.c_types.specs.Expressions.{wrong_function}
 use Rattle.c_types.specs.Scopes.{wrong_kind}
 use Rattle.c_types.specs.Checks.{at_place, first, Checked}
@@ -96,16 +97,6 @@ cell_limit unit.Merge = 3145728
 cell_limit u = 1048576
 
 -- ---- prototypes
-
-abbrev pub same_kinds : List Kind → List Kind → Bool
-same_kinds [] [] = true
-same_kinds [] (k ∷ ks) = false
-same_kinds (j ∷ js) [] = false
-same_kinds (j ∷ js) (k ∷ ks) = same_kind j k && same_kinds js ks
-
-abbrev pub same_result : Bool → Bool → Bool
-same_result true gives = gives
-same_result false gives = not gives
 
 abbrev pub wrong_match : Option Means → Proto → Option ℕ
 wrong_match (Some (Code params gives value denied)) p =

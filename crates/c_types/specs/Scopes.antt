@@ -3,6 +3,7 @@ use Rattle.std.specs.Prelude.{codes, nat_eq, ◌&&◌, ℕ, nat_lt, Bool, false,
 use Rattle.std.specs.Option.{is_some, option_or}
 use Rattle.std.specs.List.{starts_with}
 use Rattle.c_lang.specs.Names.{Bytes}
+use Rattle.c_lang.specs.Kinds.{same_kind}
 use Rattle.c_lang.specs.declared.stmt.Kind.{Kind}
 use Rattle.c_lang.specs.declared.stmt.Kind.TheVariants.{Int, Fp}
 use Rattle.c_lang.specs.declared.stmt.Dest.{Dest}
@@ -11,7 +12,7 @@ use Rattle.c_types.specs.declared.means.Means.{Means}
 use Rattle.c_types.specs.declared.means.Means.TheVariants.{Cell, Row, Code, Refused}
 use Rattle.c_types.specs.declared.scope.Scope.{Scope}
 use Rattle.c_types.specs.declared.scope.Block.{Block}
-use Rattle.c_types.specs.Names.{Names, Entries, found, meant, added, stands_from, stands_before, smaller, same_kind}
+use Rattle.c_types.specs.Names.{Names, Entries, found, meant, added, stands_from, stands_before, smaller}
 
 -- ---- names
 

@@ -7,11 +7,13 @@ ghost use Rattle.c_types.specs.Programs as spec;
 
 use crate::expressions::wrong_function;
 use crate::functions::{means_of_func, wrong_params_count};
-use crate::means::{Means, same_kind, smaller};
+use crate::means::{Means, smaller};
 use crate::scope::wrong_kind;
 use crate::simple::stop;
 use crate::symbols::Symbols;
-use c_lang::{Fail, Func, GlobalVar, Kind, Name, Proto, Refusal, Shape, Unit};
+use c_lang::{
+    Fail, Func, GlobalVar, Kind, Name, Proto, Refusal, Shape, Unit, same_kinds, same_result,
+};
 use std::alloc::{AllocError, Global};
 
 fn means_of_shape(shape: &Shape) -> Means
@@ -183,24 +185,6 @@ pub fn cell_limit(unit: Unit) -> usize
         Unit::Merge => 3_145_728,
         _ => 1_048_576,
     }
-}
-
-fn same_kinds(js: &[Kind], ks: &[Kind]) -> bool
-    ensures { result ≡ spec.same_kinds js.now ks.now }
-{
-    let [j, js @ ..] = js else {
-        return ks.is_empty();
-    };
-    let [k, ks @ ..] = ks else {
-        return false;
-    };
-    same_kind(*j, *k) && same_kinds(js, ks)
-}
-
-fn same_result(a: bool, b: bool) -> bool
-    ensures { result ≡ spec.same_result a b }
-{
-    if a { b } else { !b }
 }
 
 fn wrong_match(function: Option<&Means>, p: &Proto) -> Option<u8>

@@ -38,22 +38,11 @@ pub fn smaller(a: Option<u8>, b: Option<u8>) -> Option<u8>
     }
 }
 
-/// Whether two kinds are the same.
-pub fn same_kind(a: Kind, b: Kind) -> bool
-    ensures { result ≡ spec.same_kind a b }
-{
-    match (a, b) {
-        (Kind::Int, Kind::Int) => true,
-        (Kind::Fp(m), Kind::Fp(n)) => m == n,
-        _ => false,
-    }
-}
-
 /// 10 where a kind doesn't fit its place.
 pub fn fits(place: Kind, kind: Kind) -> Option<u8>
     ensures { result ≡ spec.fits place kind }
 {
-    if same_kind(place, kind) {
+    if place.same_as(kind) {
         None
     } else {
         Some(10)

@@ -5,7 +5,7 @@ ghost use Rattle.std.specs.Option.{option_copied};
 ghost use Rattle.c_types.specs.Names.{meant};
 ghost use Rattle.c_types.specs.Scopes as spec;
 
-use crate::means::{Means, same_kind, smaller};
+use crate::means::{Means, smaller};
 use crate::symbols::Symbols;
 use c_lang::{Dest, Kind, Name};
 use std::alloc::{AllocError, Global};
@@ -76,7 +76,7 @@ fn is_another(told: Option<&Means>, kind: Kind) -> bool
     ensures { result ≡ spec.is_another (option_copied told.entry) kind }
 {
     match told {
-        Some(Means::Cell(before)) => !same_kind(*before, kind),
+        Some(Means::Cell(before)) => !before.same_as(kind),
         Some(Means::Row) | Some(Means::Code { .. }) | Some(Means::Refused(_)) | None => false,
     }
 }

@@ -4,16 +4,16 @@ use Rattle.std.specs.Str.{bytes_eq}
 use Rattle.std.proofs.lemmas.Slice.Eq.{bytes_eq-Decides}
 use Rattle.c_lang.specs.Names.{Bytes}
 use Rattle.c_lang.specs.Values.{Value, Num, Code, Null}
-use Rattle.c_lang.specs.Steps as steps
-use Rattle.c_lang.specs.Steps.{updated, local_or, Locals, Item, Does, Mark, Frame, Config, Live, Over, after_mark}
+use Rattle.plain_run.specs.Steps as steps
+use Rattle.plain_run.specs.Steps.{updated, local_or, Locals, Item, Does, Mark, Frame, Config, Live, Over, after_mark}
 use Rattle.c_lang.specs.Programs.{func_in}
-use Rattle.c_lang.specs.PlainRun.{Store, PlainFrame, plain_access}
+use Rattle.plain_run.specs.PlainRun.{Store, PlainFrame, plain_access}
 use Rattle.c_lang.specs.Version.{Version}
 use Rattle.c_lang.specs.Home.{Home, Linked, same_home, same_linked}
 use Rattle.c_lang.specs.Home as home
 use Rattle.c_lang.specs.Origin.{Origin, may_update}
 use Rattle.c_lang.specs.Origin as origin
-use Rattle.c_lang.specs.UpdatingRun.{World, State, UpdFrame, cell_meaning, function_meaning, code_of, updating_access}
+use Rattle.merge_core.specs.UpdatingRun.{World, State, UpdFrame, cell_meaning, function_meaning, code_of, updating_access}
 use Rattle.c_lang.specs.declared.unit.Pos.{Pos}
 use Rattle.c_lang.specs.declared.expr.Expr.TheVariants.{Var}
 use Rattle.c_lang.specs.declared.stmt.Kind.{Kind}

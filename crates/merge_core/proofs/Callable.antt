@@ -6,19 +6,19 @@ use Rattle.c_lang.specs.Names.{Bytes}
 use Rattle.c_lang.specs.Trees.{Expression, literal, variable, element, function, null, negation, logical_not, binary, expression_of}
 use Rattle.c_lang.specs.Values.{Value, Num, Code, Null, Answer, number, is_zero, in_range, truth, fits_int, negated}
 use Rattle.c_lang.specs.Evaluation.{Look, and_then, element_at, found_element, applied, ev, joined}
-use Rattle.c_lang.specs.Moves.{Move, Goes, Asks, Shows}
-use Rattle.c_lang.specs.Steps as steps
-use Rattle.c_lang.specs.Steps.{updated, local_or, Locals, Item, Does, Mark, Frame, Config, Live, Over, after_mark}
+use Rattle.plain_run.specs.Moves.{Move, Goes, Asks, Shows}
+use Rattle.plain_run.specs.Steps as steps
+use Rattle.plain_run.specs.Steps.{updated, local_or, Locals, Item, Does, Mark, Frame, Config, Live, Over, after_mark}
 use Rattle.c_lang.specs.Programs.{global_named, initial_value}
-use Rattle.c_lang.specs.PlainRun.{PlainConfig, step}
+use Rattle.plain_run.specs.PlainRun.{PlainConfig, step}
 use Rattle.c_lang.specs.Version.{Version, is_old}
 use Rattle.c_lang.specs.Version as version
 use Rattle.c_lang.specs.Home.{Home, Linked, same_home, same_linked}
 use Rattle.c_lang.specs.Home as home
 use Rattle.c_lang.specs.Origin.{Origin, may_update}
 use Rattle.c_lang.specs.Origin as origin
-use Rattle.c_lang.specs.UpdatingRun.{World, State, UpdFrame, UpdConfig, cell_meaning, function_meaning, code_of, updating_access, swapped_state, swapped, picked, update, step_updating}
-use Rattle.c_lang.proofs.Simulation.{Comes, Matches, Holds, same_from}
+use Rattle.merge_core.specs.UpdatingRun.{World, State, UpdFrame, UpdConfig, cell_meaning, function_meaning, code_of, updating_access, swapped_state, swapped, picked, update, step_updating}
+use Rattle.plain_run.proofs.Simulation.{Comes, Matches, Holds, same_from}
 use Rattle.c_lang.specs.declared.unit.Pos.{Pos}
 use Rattle.c_lang.specs.declared.event.Trap.{Trap}
 use Rattle.c_lang.specs.declared.event.Trap.TheVariants.{Assert, Overflow, Divide}

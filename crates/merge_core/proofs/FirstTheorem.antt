@@ -2,21 +2,21 @@
 use Rattle.std.proofs.Common.{◌≡◌, ◌+◌, Bool, true, false, if◌then◌else◌, List, [], ◌∷◌, ◌++◌, map, Option, Some, None, unwrap_or, refl, sym, ap, ◌∙◌, subst, codes, ◌⊎◌, inl, inr}
 use Rattle.std.specs.Str.{bytes_eq}
 use Rattle.c_lang.specs.Names.{Bytes}
-use Rattle.c_lang.specs.Moves.{Goes}
-use Rattle.c_lang.specs.Steps as steps
-use Rattle.c_lang.specs.Steps.{Does, Live, Over, Frame, Config}
+use Rattle.plain_run.specs.Moves.{Goes}
+use Rattle.plain_run.specs.Steps as steps
+use Rattle.plain_run.specs.Steps.{Does, Live, Over, Frame, Config}
 use Rattle.c_lang.specs.Sources.{at, global, first_line}
 use Rattle.c_lang.specs.Layout.{both_name, layout_program}
 use Rattle.c_lang.specs.Programs.{func_named, func_in, no_func, global_named, initial_value, initial_row}
-use Rattle.c_lang.specs.PlainRun.{Store, PlainFrame, PlainConfig, plain_access, dropped, step, start}
+use Rattle.plain_run.specs.PlainRun.{Store, PlainFrame, PlainConfig, plain_access, dropped, step, start}
 use Rattle.c_lang.specs.Version.{Version}
 use Rattle.c_lang.specs.Version as version
 use Rattle.c_lang.specs.Home.{Home, Linked}
 use Rattle.c_lang.specs.Home as home
 use Rattle.c_lang.specs.Origin.{Origin}
 use Rattle.c_lang.specs.Origin as origin
-use Rattle.c_lang.specs.UpdatingRun.{World, State, swapped_state, UpdFrame, cell_meaning, function_meaning, code_of, updating_access, first_state, start_updating}
-use Rattle.c_lang.proofs.Simulation.{silently, goes_once}
+use Rattle.merge_core.specs.UpdatingRun.{World, State, swapped_state, UpdFrame, cell_meaning, function_meaning, code_of, updating_access, first_state, start_updating}
+use Rattle.plain_run.proofs.Simulation.{silently, goes_once}
 use Rattle.c_lang.specs.declared.unit.Pos.{Pos}
 use Rattle.c_lang.specs.declared.unit.Unit.TheVariants as unit
 use Rattle.c_lang.specs.declared.stmt.Kind.TheVariants as kind

@@ -12,7 +12,7 @@ use Rattle.c_lang.specs.Home.{Home, Linked, same_home}
 use Rattle.c_lang.specs.Home as home
 use Rattle.c_lang.specs.Origin.{Origin}
 use Rattle.c_lang.specs.Origin as origin
-use Rattle.c_lang.specs.UpdatingRun.{World, behind, old_or_new, linked_by_prefix, cell_meaning, function_meaning}
+use Rattle.merge_core.specs.UpdatingRun.{World, behind, old_or_new, linked_by_prefix, cell_meaning, function_meaning}
 use Rattle.c_lang.specs.declared.unit.Unit.TheVariants as unit
 use Rattle.c_lang.specs.declared.program.GlobalVar.{GlobalVar}
 use Rattle.c_lang.specs.declared.program.Func.{Func}

@@ -4,18 +4,18 @@ use Rattle.std.specs.Option.{option_map}
 use Rattle.std.specs.Str.{bytes_eq}
 use Rattle.c_lang.specs.Names.{Bytes}
 use Rattle.c_lang.specs.Values.{Value, Num}
-use Rattle.c_lang.specs.Moves.{Move, Goes}
-use Rattle.c_lang.specs.Steps as steps
-use Rattle.c_lang.specs.Steps.{updated, local_or, Locals, Item, Does, Mark, Frame, Config, Live, Over, after_mark}
+use Rattle.plain_run.specs.Moves.{Move, Goes}
+use Rattle.plain_run.specs.Steps as steps
+use Rattle.plain_run.specs.Steps.{updated, local_or, Locals, Item, Does, Mark, Frame, Config, Live, Over, after_mark}
 use Rattle.c_lang.specs.Programs.{func_in}
-use Rattle.c_lang.specs.PlainRun.{Store, PlainFrame, PlainConfig, plain_access, dropped, step}
+use Rattle.plain_run.specs.PlainRun.{Store, PlainFrame, PlainConfig, plain_access, dropped, step}
 use Rattle.c_lang.specs.Version.{Version, is_old}
 use Rattle.c_lang.specs.Version as version
 use Rattle.c_lang.specs.Home.{Linked}
 use Rattle.c_lang.specs.Origin.{Origin, may_update}
 use Rattle.c_lang.specs.Origin as origin
-use Rattle.c_lang.specs.UpdatingRun.{World, State, UpdFrame, UpdConfig, cell_meaning, updating_access}
-use Rattle.c_lang.proofs.Simulation.{Comes, goes_once, then_leads, silently}
+use Rattle.merge_core.specs.UpdatingRun.{World, State, UpdFrame, UpdConfig, cell_meaning, updating_access}
+use Rattle.plain_run.proofs.Simulation.{Comes, goes_once, then_leads, silently}
 use Rattle.c_lang.specs.declared.event.Event.TheVariants as event
 use Rattle.c_lang.specs.declared.expr.Expr.TheVariants.{Var}
 use Rattle.c_lang.specs.declared.stmt.Kind.{Kind}

@@ -13,7 +13,7 @@ use Rattle.c_lang.specs.Origin.{Origin}
 use Rattle.c_lang.specs.Origin as origin
 use Rattle.c_lang.specs.Links.{cell_part, code_part}
 use Rattle.c_lang.specs.Programs.{func_named}
-use Rattle.c_lang.specs.UpdatingRun.{World, behind, old_or_new, linked_by_prefix, client_funcs, cell_meaning, function_meaning}
+use Rattle.merge_core.specs.UpdatingRun.{World, behind, old_or_new, linked_by_prefix, client_funcs, cell_meaning, function_meaning}
 use Rattle.merge_core.proofs.MergedStatements.{now_name, choice_name}
 use Rattle.merge_core.proofs.Relation.{Naming}
 

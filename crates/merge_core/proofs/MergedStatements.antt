@@ -14,7 +14,7 @@ use Rattle.c_lang.specs.declared.stmt.Stmt.TheOpen.{Stmt-F}
 use Rattle.c_lang.specs.declared.stmt.Stmt.TheOpen as one
 use Rattle.c_lang.specs.declared.stmt.Stmt.TheVariants as stmt
 use Rattle.c_lang.specs.Origin.{Origin, may_update}
-use Rattle.c_lang.specs.Steps.{Item, Does, Mark}
+use Rattle.plain_run.specs.Steps.{Item, Does, Mark}
 use Rattle.merge_core.proofs.Renaming.{stmt_under}
 
 abbrev pub now_name : Bytes

@@ -4,16 +4,16 @@ use Rattle.std.specs.Option.{option_map}
 use Rattle.std.specs.Str.{bytes_eq}
 use Rattle.c_lang.specs.Names.{Bytes}
 use Rattle.c_lang.specs.Values.{Value, Num}
-use Rattle.c_lang.specs.Moves.{Move}
-use Rattle.c_lang.specs.Steps.{Does, Live, Over}
-use Rattle.c_lang.specs.PlainRun.{Store, PlainFrame, PlainConfig, step}
+use Rattle.plain_run.specs.Moves.{Move}
+use Rattle.plain_run.specs.Steps.{Does, Live, Over}
+use Rattle.plain_run.specs.PlainRun.{Store, PlainFrame, PlainConfig, step}
 use Rattle.c_lang.specs.Version.{Version, is_old}
 use Rattle.c_lang.specs.Version as version
 use Rattle.c_lang.specs.Home.{Home, Linked, same_home, same_linked}
 use Rattle.c_lang.specs.Home as home
 use Rattle.c_lang.specs.Origin.{Origin}
-use Rattle.c_lang.specs.UpdatingRun.{World, State, UpdFrame, UpdConfig, cell_meaning, function_meaning, swapped_state, step_updating}
-use Rattle.c_lang.proofs.Simulation.{Matches}
+use Rattle.merge_core.specs.UpdatingRun.{World, State, UpdFrame, UpdConfig, cell_meaning, function_meaning, swapped_state, step_updating}
+use Rattle.plain_run.proofs.Simulation.{Matches}
 use Rattle.c_lang.specs.declared.unit.Pos.{Pos}
 use Rattle.c_lang.specs.declared.stmt.Kind.TheVariants as kind
 use Rattle.c_lang.specs.declared.stmt.Dest.{Dest}

@@ -6,17 +6,17 @@ use Rattle.c_lang.specs.Names.{Bytes}
 use Rattle.c_lang.specs.Trees.{expression_of}
 use Rattle.c_lang.specs.Values.{Value, Answer}
 use Rattle.c_lang.specs.Evaluation.{Look, ev}
-use Rattle.c_lang.specs.Moves.{Move}
-use Rattle.c_lang.specs.Steps as steps
-use Rattle.c_lang.specs.Steps.{updated, local_or, Locals, Item, Does, Mark, Frame, Config, Live, Over, after_mark}
-use Rattle.c_lang.specs.PlainRun.{Store, PlainFrame, PlainConfig, plain_access, step}
+use Rattle.plain_run.specs.Moves.{Move}
+use Rattle.plain_run.specs.Steps as steps
+use Rattle.plain_run.specs.Steps.{updated, local_or, Locals, Item, Does, Mark, Frame, Config, Live, Over, after_mark}
+use Rattle.plain_run.specs.PlainRun.{Store, PlainFrame, PlainConfig, plain_access, step}
 use Rattle.c_lang.specs.Version.{Version, is_old}
 use Rattle.c_lang.specs.Version as version
 use Rattle.c_lang.specs.Home.{Home, Linked, same_home, same_linked}
 use Rattle.c_lang.specs.Home as home
 use Rattle.c_lang.specs.Origin.{Origin}
-use Rattle.c_lang.specs.UpdatingRun.{World, State, UpdFrame, UpdConfig, put_linked, cell_meaning, updating_access, swapped_state}
-use Rattle.c_lang.proofs.Simulation.{goes_once}
+use Rattle.merge_core.specs.UpdatingRun.{World, State, UpdFrame, UpdConfig, put_linked, cell_meaning, updating_access, swapped_state}
+use Rattle.plain_run.proofs.Simulation.{goes_once}
 use Rattle.c_lang.specs.declared.unit.Pos.{Pos}
 use Rattle.c_lang.specs.declared.event.Trap.{Trap}
 use Rattle.c_lang.specs.declared.event.Trap.TheVariants.{Index}

@@ -5,19 +5,19 @@ use Rattle.std.proofs.lemmas.List.{map-append}
 use Rattle.c_lang.specs.Names.{Bytes}
 use Rattle.c_lang.specs.Values.{Value, Num, Code, Null, number, is_zero}
 use Rattle.c_lang.specs.Evaluation.{joined}
-use Rattle.c_lang.specs.Moves.{Goes, Asks}
-use Rattle.c_lang.specs.Steps as steps
-use Rattle.c_lang.specs.Steps.{updated, local_or, Locals, Item, Does, Mark, Frame, Config, Live, Over, after_mark}
+use Rattle.plain_run.specs.Moves.{Goes, Asks}
+use Rattle.plain_run.specs.Steps as steps
+use Rattle.plain_run.specs.Steps.{updated, local_or, Locals, Item, Does, Mark, Frame, Config, Live, Over, after_mark}
 use Rattle.c_lang.specs.Programs.{func_in}
-use Rattle.c_lang.specs.PlainRun.{Store, PlainFrame, PlainConfig, plain_access, dropped, step}
+use Rattle.plain_run.specs.PlainRun.{Store, PlainFrame, PlainConfig, plain_access, dropped, step}
 use Rattle.c_lang.specs.Version.{Version, is_old}
 use Rattle.c_lang.specs.Version as version
 use Rattle.c_lang.specs.Home.{Home, Linked, same_home, same_linked}
 use Rattle.c_lang.specs.Home as home
 use Rattle.c_lang.specs.Origin.{Origin, may_update}
 use Rattle.c_lang.specs.Origin as origin
-use Rattle.c_lang.specs.UpdatingRun.{World, State, UpdFrame, UpdConfig, cell_meaning, function_meaning, version_code, code_of, updating_access, swapped_state, swapped, picked, update, step_updating}
-use Rattle.c_lang.proofs.Simulation.{Leads, Comes, matches_after, goes_once, silently, comes_on, takes_once, comes_takes, takes_comes, waits_there, comes_waits, ends_there}
+use Rattle.merge_core.specs.UpdatingRun.{World, State, UpdFrame, UpdConfig, cell_meaning, function_meaning, version_code, code_of, updating_access, swapped_state, swapped, picked, update, step_updating}
+use Rattle.plain_run.proofs.Simulation.{Leads, Comes, matches_after, goes_once, silently, comes_on, takes_once, comes_takes, takes_comes, waits_there, comes_waits, ends_there}
 use Rattle.c_lang.specs.declared.unit.Pos.{Pos}
 use Rattle.c_lang.specs.declared.event.Trap.TheVariants.{Assert, NullCall}
 use Rattle.c_lang.specs.declared.event.Event.{Event}

@@ -4,8 +4,8 @@ use Rattle.c_lang.specs.Sources.{Source, Setter, Action, IsSource, IsSetter, at,
 use Rattle.c_lang.specs.Sources as source
 use Rattle.c_lang.specs.Layout.{Layout, IsLayout, Expansion, Piece, Main, layout_program}
 use Rattle.c_lang.specs.Layout as layout
-use Rattle.c_lang.specs.PlainRun.{Obs}
-use Rattle.c_lang.specs.UpdatingRun.{World, ObsU}
+use Rattle.plain_run.specs.PlainRun.{Obs}
+use Rattle.merge_core.specs.UpdatingRun.{World, ObsU}
 use Rattle.c_lang.specs.declared.unit.Pos.{Pos}
 use Rattle.c_lang.specs.declared.unit.Unit.{Unit}
 use Rattle.c_lang.specs.declared.unit.Unit.TheVariants as unit

@@ -1,2 +1,3 @@
+pub mod UpdatingRun
 pub mod FirstMerge
 pub mod MergedProgram

@@ -28,7 +28,7 @@ use Rattle.c_statements.specs.Scopes.{Scope, is_declared, declare, refuse_arity}
 use Rattle.c_statements.specs.Statements.{CallTree, SideTree, PointerTree, Ints, ints_tokens, int_tokens, ints_count, pointer_tokens, arity, CondTree, cond_tokens, Simple, Piece, Body, Pieces, IsPiece, IsBody, ArePieces, body_tokens, pieces_tokens, body_height, pieces_height, body_scope, pieces_scope, body_stmts, pieces_stmts, set_stmts, set_scope, right_to, call_to, stmts, scope_after}
 use Rattle.c_statements.specs.Statements as tree
 use Rattle.merge_printer.specs.Heights.{expression_height, arguments_height, statement_height, statements_height}
-use Rattle.merge_printer.specs.Plain.{stmt_of, stmts_of}
+use Rattle.c_lang.specs.Trees.{stmt_of, stmts_of}
 use Rattle.merge_printer.specs.Positions.{StatementHasPositions, StatementsHavePositions}
 use Rattle.merge_printer.specs.Expressions.{expression_text}
 use Rattle.merge_printer.specs.Statements.{more_ints, ints, target, call_text, statement_text, statements_text}

@@ -8,7 +8,7 @@ use Rattle.c_lang.specs.declared.stmt.Stmt.{Stmt, roll-Stmt, map-Stmt, fold-roll
 use Rattle.c_lang.specs.declared.stmt.Stmt.TheOpen.{Stmt-F}
 use Rattle.c_lang.specs.declared.stmt.Stmt.TheVariants as stmt
 use Rattle.c_lang.proofs.TreeLemmas.{expr_of-expression_of}
-use Rattle.merge_printer.specs.Plain.{stmt_of, stmts_of}
+use Rattle.c_lang.specs.Trees.{stmt_of, stmts_of}
 
 abbrev IsBuilt : Stmt → Type 0
 IsBuilt s = stmt_of (statement_of s) ≡ s

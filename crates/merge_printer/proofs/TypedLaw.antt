@@ -15,7 +15,8 @@ use Rattle.c_types.specs.Plain.{plain_expression, plain_statement, plain_stateme
 use Rattle.c_types.specs.Programs.{resolved_program}
 use Rattle.c_types.specs.Types.{Types}
 use Rattle.c_types.proofs.PlainLaws.{plain_resolved_program}
-use Rattle.merge_printer.specs.Plain.{stmts_of, built_func, plain}
+use Rattle.c_lang.specs.Trees.{stmts_of}
+use Rattle.merge_printer.specs.Plain.{built_func, plain}
 use Rattle.merge_printer.specs.Printable.{IsPrintable}
 use Rattle.merge_printer.specs.Programs.{program_text}
 use Rattle.merge_printer.proofs.DeclarationLaw.{FuncReads, body_of}

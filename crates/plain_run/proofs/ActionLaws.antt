@@ -1,10 +1,10 @@
 -- Doing what a statement asks for is the statement's step.
 use Rattle.std.proofs.Common.{◌≡◌, Bool, true, false, if◌then◌else◌, List, [], ◌∷◌, ◌++◌, map, Some, None, Ok, Err, refl, ◌∙◌}
 use Rattle.c_lang.specs.Names.{Bytes}
-use Rattle.c_lang.specs.Moves.{Move, Goes}
-use Rattle.c_lang.specs.PlainRun.{Store, PlainFrame, PlainConfig, plain_access, dropped}
-use Rattle.c_lang.specs.Steps as steps
-use Rattle.c_lang.specs.Steps.{Does, Mark, Live, row_with}
+use Rattle.plain_run.specs.Moves.{Move, Goes}
+use Rattle.plain_run.specs.PlainRun.{Store, PlainFrame, PlainConfig, plain_access, dropped}
+use Rattle.plain_run.specs.Steps as steps
+use Rattle.plain_run.specs.Steps.{Does, Mark, Live, row_with}
 use Rattle.c_lang.specs.Values.{Value, Answer, number, is_zero}
 use Rattle.c_lang.specs.declared.event.Trap.TheVariants as trap
 use Rattle.c_lang.specs.declared.event.Event.TheVariants as event

@@ -7,7 +7,7 @@ use Rattle.std.specs.Str.{bytes_eq}
 use Rattle.indexmap.specs.IndexMap.{insert_entry}
 use Rattle.c_lang.specs.Names.{Bytes}
 use Rattle.c_lang.specs.Values as spec
-use Rattle.c_lang.specs.Steps.{bound, updated}
+use Rattle.plain_run.specs.Steps.{bound, updated}
 use Rattle.c_lang.specs.declared.stmt.Kind.{Kind}
 use Rattle.plain_run.specs.declared.value.Value.{Value}
 use Rattle.plain_run.specs.Calls.{first_or_zero}

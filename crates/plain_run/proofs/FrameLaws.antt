@@ -3,7 +3,7 @@ use Rattle.std.proofs.Common.{◌≡◌, List, [], ◌∷◌, ◌++◌, map, rev
 use Rattle.std.specs.Borrow.{Bor}
 use Rattle.std.proofs.lemmas.List.{map-append, reverse-append}
 use Rattle.std.proofs.lemmas.List.Sums.{fold-append}
-use Rattle.c_lang.specs.Steps.{Item, Does, after_mark}
+use Rattle.plain_run.specs.Steps.{Item, Does, after_mark}
 use Rattle.c_lang.specs.declared.stmt.Stmt.{Stmt}
 use Rattle.plain_run.specs.declared.frame.Rest.{Rest}
 use Rattle.plain_run.specs.declared.frame.Rest.TheVariants.{Body}

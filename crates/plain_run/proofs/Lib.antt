@@ -1,3 +1,4 @@
+pub mod Simulation
 pub mod Levels
 pub mod FrameLaws
 pub mod TableLaws

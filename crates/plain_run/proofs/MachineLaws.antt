@@ -1,11 +1,11 @@
 -- A machine's configuration, as its parts change.
 use Rattle.std.proofs.Common.{◌≡◌, ℤ, ◌⊎◌, inl, inr, Bool, false, List, [], ◌∷◌, ◌++◌, map, reverse, codes, Vec, Global, Ok, Err, refl, sym, ap, ap₂, ◌∙◌}
-use Rattle.c_lang.specs.Moves.{Move}
+use Rattle.plain_run.specs.Moves.{Move}
 use Rattle.c_lang.specs.Names.{Bytes}
-use Rattle.c_lang.specs.PlainRun.{Store, PlainFrame, PlainConfig, plain_access, start}
+use Rattle.plain_run.specs.PlainRun.{Store, PlainFrame, PlainConfig, plain_access, start}
 use Rattle.c_lang.specs.Programs.{global_named, func_in, initial_value, initial_row}
-use Rattle.c_lang.specs.Steps as steps
-use Rattle.c_lang.specs.Steps.{Live}
+use Rattle.plain_run.specs.Steps as steps
+use Rattle.plain_run.specs.Steps.{Live}
 use Rattle.c_lang.specs.Values as spec
 use Rattle.c_lang.specs.Values.{Answer}
 use Rattle.c_lang.specs.declared.event.Trap.TheVariants.{NullCall}

@@ -3,7 +3,7 @@ use Rattle.std.proofs.Common.{◌≡◌, ℤ, Bool, true, false, if◌then◌els
 use Rattle.std.specs.Map.{set_value}
 use Rattle.std.specs.Str.{bytes_eq}
 use Rattle.c_lang.specs.Names.{Bytes}
-use Rattle.c_lang.specs.Steps.{updated, row_with}
+use Rattle.plain_run.specs.Steps.{updated, row_with}
 use Rattle.plain_run.specs.Names.{found, row_or_empty, seen_rows}
 use Rattle.plain_run.specs.Stored.{Rows, StoresElement}
 use Rattle.plain_run.proofs.StoreLaws.{all_names}

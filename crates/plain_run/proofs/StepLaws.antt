@@ -1,7 +1,7 @@
 -- A step does what the next item's statement asks for.
 use Rattle.std.proofs.Common.{◌≡◌, ℤ, pos, Bool, List, [], ◌∷◌, Some, None, Result, false, refl, sym, ap, ◌∙◌, subst}
-use Rattle.c_lang.specs.PlainRun.{Store, PlainFrame, PlainConfig, plain_access, step}
-use Rattle.c_lang.specs.Steps.{Item, Does, Mark, Live, look}
+use Rattle.plain_run.specs.PlainRun.{Store, PlainFrame, PlainConfig, plain_access, step}
+use Rattle.plain_run.specs.Steps.{Item, Does, Mark, Live, look}
 use Rattle.c_lang.specs.Values.{Num}
 use Rattle.c_lang.specs.declared.program.Program.{Program}
 use Rattle.c_lang.specs.declared.stmt.Dest.{Dest}

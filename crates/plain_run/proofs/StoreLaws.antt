@@ -5,8 +5,8 @@ use Rattle.std.specs.Option.{option_map}
 use Rattle.indexmap.specs.IndexMap.{insert_entry}
 use Rattle.c_lang.specs.Names.{Bytes}
 use Rattle.c_lang.specs.Values as spec
-use Rattle.c_lang.specs.PlainRun.{Store, PlainFrame, plain_access}
-use Rattle.c_lang.specs.Steps.{Live, updated, into}
+use Rattle.plain_run.specs.PlainRun.{Store, PlainFrame, plain_access}
+use Rattle.plain_run.specs.Steps.{Live, updated, into}
 use Rattle.c_lang.specs.declared.program.Program.{Program}
 use Rattle.c_lang.specs.declared.stmt.Dest.TheVariants.{Into, Fresh}
 use Rattle.c_lang.specs.declared.stmt.Kind.{Kind}

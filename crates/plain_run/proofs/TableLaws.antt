@@ -6,7 +6,7 @@ use Rattle.std.specs.Str.{bytes_eq}
 use Rattle.std.proofs.lemmas.Slice.Eq.{bytes_eq-Decides}
 use Rattle.indexmap.specs.IndexMap.{insert_entry}
 use Rattle.c_lang.specs.Names.{Bytes}
-use Rattle.c_lang.specs.Steps.{updated}
+use Rattle.plain_run.specs.Steps.{updated}
 use Rattle.plain_run.specs.Names.{found}
 
 abbrev pub same_name : Bor Bytes → Bor Bytes → Bool

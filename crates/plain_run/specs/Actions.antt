@@ -4,10 +4,10 @@ use Rattle.std.specs.Prelude.{ℕ, ℤ, pos, not, if◌then◌else◌, List, [],
 use Rattle.std.specs.Str.{bytes_eq}
 use Rattle.c_lang.specs.Names.{Bytes}
 use Rattle.c_lang.specs.Evaluation.{Look, ev}
-use Rattle.c_lang.specs.Moves.{Move, Goes, Asks}
-use Rattle.c_lang.specs.PlainRun.{Store, PlainFrame, PlainConfig, plain_access}
-use Rattle.c_lang.specs.Steps as steps
-use Rattle.c_lang.specs.Steps.{Does, Mark, Live, after_mark, row_with, given}
+use Rattle.plain_run.specs.Moves.{Move, Goes, Asks}
+use Rattle.plain_run.specs.PlainRun.{Store, PlainFrame, PlainConfig, plain_access}
+use Rattle.plain_run.specs.Steps as steps
+use Rattle.plain_run.specs.Steps.{Does, Mark, Live, after_mark, row_with, given}
 use Rattle.c_lang.specs.Trees.{expression_of}
 use Rattle.c_lang.specs.Values.{Value, Num, Code, Answer, number, is_zero}
 use Rattle.c_lang.specs.declared.event.Trap.{Trap}

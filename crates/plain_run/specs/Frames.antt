@@ -3,8 +3,8 @@ use Rattle.std.specs.Prelude.{Bool, List, [], ◌∷◌, ◌++◌, map, reverse,
 use Rattle.std.specs.Borrow.{Bor}
 use Rattle.std.specs.declared.alloc.Global.{Global}
 use Rattle.c_lang.specs.Names.{Bytes}
-use Rattle.c_lang.specs.PlainRun.{PlainFrame}
-use Rattle.c_lang.specs.Steps.{Item, Does, Mark}
+use Rattle.plain_run.specs.PlainRun.{PlainFrame}
+use Rattle.plain_run.specs.Steps.{Item, Does, Mark}
 use Rattle.c_lang.specs.declared.stmt.Dest.{Dest}
 use Rattle.c_lang.specs.declared.stmt.Dest.TheVariants.{Nowhere}
 use Rattle.c_lang.specs.declared.stmt.Stmt.{Stmt}

@@ -1,3 +1,6 @@
+pub mod Moves
+pub mod Steps
+pub mod PlainRun
 pub mod Values
 pub mod Names
 pub mod Tables

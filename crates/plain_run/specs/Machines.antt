@@ -1,10 +1,10 @@
 -- What a machine stands for.
 use Rattle.std.specs.Prelude.{ℤ, Bool, true, false, List, Result}
 use Rattle.c_lang.specs.Evaluation.{Look}
-use Rattle.c_lang.specs.Moves.{Move}
+use Rattle.plain_run.specs.Moves.{Move}
 use Rattle.c_lang.specs.Names.{Bytes}
-use Rattle.c_lang.specs.PlainRun.{Store, PlainFrame, PlainConfig, plain_access, step}
-use Rattle.c_lang.specs.Steps.{Live, Over, look, entered}
+use Rattle.plain_run.specs.PlainRun.{Store, PlainFrame, PlainConfig, plain_access, step}
+use Rattle.plain_run.specs.Steps.{Live, Over, look, entered}
 use Rattle.c_lang.specs.Values.{Value}
 use Rattle.c_lang.specs.declared.program.Program.{Program}
 use Rattle.c_lang.specs.declared.stmt.Dest.{Dest}

@@ -7,7 +7,7 @@ use Rattle.std.specs.Str.{bytes_eq}
 use Rattle.std.specs.declared.alloc.Global.{Global}
 use Rattle.c_lang.specs.Names.{Bytes}
 use Rattle.c_lang.specs.Values as spec
-use Rattle.c_lang.specs.Steps.{Locals}
+use Rattle.plain_run.specs.Steps.{Locals}
 use Rattle.plain_run.specs.declared.value.Value.{Value}
 use Rattle.plain_run.specs.Values.{seen_value}
 

@@ -1,7 +1,7 @@
 -- What a step of the machine is to a move of the definitions.
 use Rattle.std.specs.Prelude.{◌≡◌, ℕ, ◌+◌, ◌<◌, ℤ, List, [], ◌∷◌, length, Result, Ok, Err}
-use Rattle.c_lang.specs.Moves.{Move, Goes, Asks, Rests}
-use Rattle.c_lang.specs.Steps.{Config, Live, Over}
+use Rattle.plain_run.specs.Moves.{Move, Goes, Asks, Rests}
+use Rattle.plain_run.specs.Steps.{Config, Live, Over}
 use Rattle.plain_run.specs.declared.step.Step.{Step}
 use Rattle.plain_run.specs.declared.step.Step.TheVariants.{Quiet, Shown, Waiting, Stopped}
 use Rattle.plain_run.specs.declared.step.RunError.{RunError}

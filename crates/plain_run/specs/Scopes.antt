@@ -1,7 +1,7 @@
 -- What names stand for while a frame is on top.
 use Rattle.c_lang.specs.Names.{Bytes}
 use Rattle.c_lang.specs.Evaluation.{Look}
-use Rattle.c_lang.specs.Steps.{local_or}
+use Rattle.plain_run.specs.Steps.{local_or}
 use Rattle.plain_run.specs.declared.eval.Scope.{Scope}
 use Rattle.plain_run.specs.Names.{seen_locals, seen_values, seen_rows}
 

@@ -3,8 +3,8 @@ use Rattle.std.specs.Prelude.{◌≡◌, ℤ, Bool, true, false, List, Some, Non
 use Rattle.std.specs.Borrow.{Bor}
 use Rattle.std.specs.declared.alloc.Global.{Global}
 use Rattle.c_lang.specs.Names.{Bytes}
-use Rattle.c_lang.specs.PlainRun.{Store, PlainFrame, plain_access}
-use Rattle.c_lang.specs.Steps.{Item, Live, stored, updated, row_with}
+use Rattle.plain_run.specs.PlainRun.{Store, PlainFrame, plain_access}
+use Rattle.plain_run.specs.Steps.{Item, Live, stored, updated, row_with}
 use Rattle.c_lang.specs.declared.program.Program.{Program}
 use Rattle.c_lang.specs.declared.stmt.Dest.{Dest}
 use Rattle.plain_run.specs.declared.value.Value.{Value}

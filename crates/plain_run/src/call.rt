@@ -2,9 +2,9 @@
 
 ghost use Rattle.std.specs.Prelude.{◌≡◌, IfOk, map, drop, List, ℕ, unwrap_or};
 ghost use Rattle.std.specs.Option.{option_copied};
-ghost use Rattle.c_lang.specs.PlainRun.{plain_access};
+ghost use Rattle.plain_run.specs.PlainRun.{plain_access};
 ghost use Rattle.c_lang.specs.Programs.{no_func};
-ghost use Rattle.c_lang.specs.Steps.{bound, frame_of};
+ghost use Rattle.plain_run.specs.Steps.{bound, frame_of};
 ghost use Rattle.c_lang.specs.declared.program.Program.{Program};
 ghost use Rattle.plain_run.specs.Calls.{first_or_zero};
 ghost use Rattle.plain_run.specs.Frames.{dest_of, seen_frame};

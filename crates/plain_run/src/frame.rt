@@ -3,7 +3,7 @@
 ghost use Rattle.std.specs.Prelude.{◌≡◌, ◌≤◌, [], ◌∷◌, ◌++◌, map, OnOk, OnErr};
 ghost use Rattle.std.specs.Prelude.{vec_len, vec_capacity};
 ghost use Rattle.std.specs.Option.{option_copied};
-ghost use Rattle.c_lang.specs.Steps.{Does, Mark, after_mark};
+ghost use Rattle.plain_run.specs.Steps.{Does, Mark, after_mark};
 ghost use Rattle.plain_run.specs.Frames.{seen_items, first_statement, behind_first};
 
 use crate::names::Values;

@@ -1,6 +1,6 @@
 ghost use Rattle.std.specs.Prelude.{◌≡◌, ◌<◌, ◌≤◌, false, ℤ, List, map, vec_len};
 ghost use Rattle.std.specs.Prelude.{Ok, Err, IfOk, OnErr, IsErrOf};
-ghost use Rattle.c_lang.specs.PlainRun.{start};
+ghost use Rattle.plain_run.specs.PlainRun.{start};
 ghost use Rattle.plain_run.specs.Actions as spec;
 ghost use Rattle.plain_run.specs.Runs.{frame_count, IsTooDeep, Makes, Makes_or_fails};
 
@@ -15,6 +15,7 @@ use crate::names::{Rows, Values, store, store_element};
 use crate::step::{RunError, Step};
 use crate::value::Value;
 use c_lang::{Dest, Event, Expr, Name, Pos, Program, Stmt, Trap};
+use c_types::Typed;
 use std::alloc::{AllocError, Global};
 use std::mem;
 
@@ -314,7 +315,14 @@ impl<'p> Machine<'p> {
 
     /// The machine at the start of the program's run: the globals have their initial values, and
     /// `main` is called. The only error is want of memory.
-    pub fn new(alloc: Global, program: &'p Program) -> Result<Machine<'p>, AllocError>
+    pub fn new(alloc: Global, program: &'p Typed) -> Result<Machine<'p>, AllocError>
+        ensures config { IfOk result (λ machine. config_of machine ≡ start program.entry.now) }
+        ensures program { IfOk result (λ machine. program_of machine ≡ program.entry.now) }
+    {
+        Machine::at_start(alloc, program.program())
+    }
+
+    fn at_start(alloc: Global, program: &'p Program) -> Result<Machine<'p>, AllocError>
         ensures config { IfOk result (λ machine. config_of machine ≡ start program.entry.now) }
         ensures program { IfOk result (λ machine. program_of machine ≡ program.entry.now) }
     {

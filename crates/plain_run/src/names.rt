@@ -1,7 +1,7 @@
 //! Tables of names.
 
 ghost use Rattle.std.specs.Prelude.{◌≡◌, false, if◌then◌else◌, OnOk, OnErr};
-ghost use Rattle.c_lang.specs.Steps.{row_with};
+ghost use Rattle.plain_run.specs.Steps.{row_with};
 ghost use Rattle.plain_run.specs.Stored.{Stores, StoresElement};
 
 use crate::value::Value;

@@ -1,7 +1,7 @@
 -- A run of a program, with one step more.
 use Rattle.std.proofs.Common.{◌≡◌, ℕ, zero, suc, ◌+◌, ◌-◌, ◌<◌, ◌≤◌, ℤ, List, [], ◌++◌, refl, sym, ap, ap₂, ◌∙◌, subst, append-nil, add-zero, add-one, add-suc, below_more, lit≤, IsErrOf, Err, arith}
-use Rattle.c_lang.specs.Moves.{Move, Goes, Asks, Rests}
-use Rattle.c_lang.specs.PlainRun.{PlainConfig, plain_access, dropped, start, step, events}
+use Rattle.plain_run.specs.Moves.{Move, Goes, Asks, Rests}
+use Rattle.plain_run.specs.PlainRun.{PlainConfig, plain_access, dropped, start, step, events}
 use Rattle.c_lang.specs.declared.event.Event.{Event}
 use Rattle.c_lang.specs.declared.program.Program.{Program}
 use Rattle.plain_run.specs.Machines.{config_of, program_of}

@@ -1,8 +1,8 @@
 -- Where a run is over, an end or a fault is its last event.
 use Rattle.std.proofs.Common.{◌≡◌, ℤ, ◌-◌, length, slice_get, Some, arith, length-append, List, [], ◌∷◌, ◌++◌, refl, sym, ap, ap₂, ◌∙◌, subst, append-nil}
-use Rattle.c_lang.specs.Moves.{Move, Goes, Asks, Rests}
-use Rattle.c_lang.specs.Steps as steps
-use Rattle.c_lang.specs.Steps.{Access, Config, Live, Over, Frame, Special}
+use Rattle.plain_run.specs.Moves.{Move, Goes, Asks, Rests}
+use Rattle.plain_run.specs.Steps as steps
+use Rattle.plain_run.specs.Steps.{Access, Config, Live, Over, Frame, Special}
 use Rattle.c_lang.specs.declared.event.Event.{Event}
 use Rattle.c_lang.specs.declared.event.Event.TheVariants as event
 use Rattle.c_lang.specs.declared.stmt.Stmt.{Stmt}

@@ -1,10 +1,10 @@
 -- Where a move comes to an end: exactly there it shows an end or a fault. This holds for each machine whose
 -- further statements come to no end.
 use Rattle.std.proofs.Common.{ℤ, pos, Bool, true, false, if◌then◌else◌, List, [], ◌∷◌, Option, Some, None, Result, Ok, Err}
-use Rattle.c_lang.specs.Moves.{Move, Goes, Asks, Rests}
+use Rattle.plain_run.specs.Moves.{Move, Goes, Asks, Rests}
 use Rattle.c_lang.specs.Names.{Bytes}
-use Rattle.c_lang.specs.Steps as steps
-use Rattle.c_lang.specs.Steps.{Access, Config, Live, Over, Frame, Item, Does, Mark, Special}
+use Rattle.plain_run.specs.Steps as steps
+use Rattle.plain_run.specs.Steps.{Access, Config, Live, Over, Frame, Item, Does, Mark, Special}
 use Rattle.c_lang.specs.Values.{Value, Num, Code, Null, number, is_zero}
 use Rattle.c_lang.specs.declared.event.Event.{Event}
 use Rattle.c_lang.specs.declared.event.Event.TheVariants as event

@@ -1,6 +1,6 @@
 -- One step more of a run.
 use Rattle.std.proofs.Common.{◌≡◌, ℕ, zero, suc, ℤ, List, [], ◌∷◌, ◌++◌, refl, sym, ap, ap₂, ◌∙◌, subst, append_assoc, append-nil}
-use Rattle.c_lang.specs.Moves.{Move, Goes, Asks, Rests, follow, events_of}
+use Rattle.plain_run.specs.Moves.{Move, Goes, Asks, Rests, follow, events_of}
 use Rattle.c_lang.specs.declared.event.Event.{Event}
 use Rattle.plain_run.specs.Runs.{Makes}
 use Rattle.plain_run.specs.declared.step.Step.{Step}

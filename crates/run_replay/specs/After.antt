@@ -1,6 +1,6 @@
 -- A machine after some steps from the start of its program.
 use Rattle.std.specs.Prelude.{◌≡◌, ℕ, ℤ, List}
-use Rattle.c_lang.specs.PlainRun.{events}
+use Rattle.plain_run.specs.PlainRun.{events}
 use Rattle.c_lang.specs.declared.event.Event.{Event}
 use Rattle.c_lang.specs.declared.program.Program.{Program}
 use Rattle.plain_run.specs.Machines.{config_of, program_of}

@@ -1,7 +1,7 @@
 -- How a run stands.
 use Rattle.std.specs.Prelude.{◌≡◌, ℤ, List, [], ◌∷◌, ◌++◌}
-use Rattle.c_lang.specs.Moves.{Move, Goes, Asks, Rests}
-use Rattle.c_lang.specs.Steps.{Config, Live, Over}
+use Rattle.plain_run.specs.Moves.{Move, Goes, Asks, Rests}
+use Rattle.plain_run.specs.Steps.{Config, Live, Over}
 use Rattle.c_lang.specs.declared.event.Event.{Event}
 use Rattle.c_lang.specs.declared.event.Event.TheVariants as event
 use Rattle.c_lang.specs.declared.event.Trap.{Trap}

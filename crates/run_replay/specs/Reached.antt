@@ -1,6 +1,6 @@
 -- How far a run comes.
 use Rattle.std.specs.Prelude.{ℕ, zero, suc, ℤ, List, [], ◌∷◌}
-use Rattle.c_lang.specs.Moves.{Move, Goes, Asks, Rests}
+use Rattle.plain_run.specs.Moves.{Move, Goes, Asks, Rests}
 
 -- the configuration and the answers that are left after a move; as before where it waits or is over
 abbrev pub after_move : {C : Type 0} → Move C → C → List ℤ → C × List ℤ

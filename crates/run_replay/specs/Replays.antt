@@ -1,6 +1,6 @@
 -- What a replay of a program says.
 use Rattle.std.specs.Prelude.{ℕ, ◌<◌, ◌≤◌, ℤ, List}
-use Rattle.c_lang.specs.PlainRun.{PlainConfig, start, step, events}
+use Rattle.plain_run.specs.PlainRun.{PlainConfig, start, step, events}
 use Rattle.c_lang.specs.declared.program.Program.{Program}
 use Rattle.plain_run.specs.Runs.{frame_count}
 use Rattle.run_replay.specs.declared.replay.Close.{Close}

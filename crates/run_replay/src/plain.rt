@@ -1,7 +1,7 @@
 //! Runs of a program that knows no update.
 
 ghost use Rattle.std.specs.Prelude.{◌≡◌, List, [], ◌∷◌, ◌++◌, ℕ, ◌≤◌, IfOk, OnOk, IsErrOf};
-ghost use Rattle.c_lang.specs.PlainRun.{events};
+ghost use Rattle.plain_run.specs.PlainRun.{events};
 ghost use Rattle.plain_run.specs.Machines.{config_of, move_of, program_of};
 ghost use Rattle.run_replay.specs.Closes.{EndsWith, IsClose, IsEnd, IsLast, ShowsItsEnd};
 ghost use Rattle.c_lang.specs.declared.event.Event.{Event};
@@ -9,7 +9,8 @@ ghost use Rattle.run_replay.specs.After.{IsAfter};
 ghost use Rattle.run_replay.specs.Replays.{GetsDeep, IsPlainClose, StaysShallow};
 
 use crate::replay::{Close, Replay};
-use c_lang::{Event, Program};
+use c_lang::Event;
+use c_types::Typed;
 use plain_run::{Answers, Machine, RunError, Step};
 use std::alloc::{AllocError, Global};
 
@@ -87,7 +88,7 @@ fn make_steps(
 /// `RunError::Deep` comes exactly where one of these steps makes one frame more than 10,000.
 pub fn replay_plain(
     alloc: Global,
-    program: &Program,
+    program: &Typed,
     answers: &[i32],
     steps: u32,
 ) -> Result<Replay, RunError>

@@ -8,7 +8,8 @@ use Rattle.std.specs.Option.{option_map}
 use Rattle.std.proofs.lemmas.Slice.Eq.{bytes_eq-Decides}
 use Rattle.c_lang.specs.Names.{Bytes}
 use Rattle.c_lang.specs.Programs.{global_named, func_named}
-use Rattle.c_lang.specs.Links.{same_shape, same_head, same_kinds, same_result, kinds_of, both_alike, part, is_shared_cell, cell_part, code_part}
+use Rattle.c_lang.specs.Kinds.{same_kinds, same_result}
+use Rattle.c_lang.specs.Links.{same_shape, same_head, kinds_of, both_alike, part, is_shared_cell, cell_part, code_part}
 use Rattle.c_lang.specs.declared.stmt.Kind.{Kind}
 use Rattle.c_lang.specs.declared.program.Shape.{Shape}
 use Rattle.c_lang.specs.declared.program.Shape.TheVariants as shape

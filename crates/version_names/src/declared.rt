@@ -1,10 +1,9 @@
 //! The names that a version declares.
 
 ghost use Rattle.std.specs.Prelude.{◌≡◌, IfOk, map};
-ghost use Rattle.c_lang.specs.Links as links;
 ghost use Rattle.version_names.specs.Declarations as spec;
 
-use c_lang::{Func, GlobalVar, Kind, Name, Shape};
+use c_lang::{Func, GlobalVar, Kind, Name, Shape, same_kinds, same_result};
 use sqlite_items::Items;
 use std::alloc::{AllocError, Global};
 
@@ -41,34 +40,6 @@ impl What {
 pub struct Declared {
     pub name: Name,
     pub what: What,
-}
-
-fn same_kind(a: Kind, b: Kind) -> bool
-    ensures { result ≡ links.same_kind a b }
-{
-    match (a, b) {
-        (Kind::Int, Kind::Int) => true,
-        (Kind::Fp(m), Kind::Fp(n)) => m == n,
-        _ => false,
-    }
-}
-
-fn same_kinds(js: &[Kind], ks: &[Kind]) -> bool
-    ensures { result ≡ links.same_kinds js.now ks.now }
-{
-    let [j, js @ ..] = js else {
-        return ks.is_empty();
-    };
-    let [k, ks @ ..] = ks else {
-        return false;
-    };
-    same_kind(*j, *k) && same_kinds(js, ks)
-}
-
-fn same_result(a: bool, b: bool) -> bool
-    ensures { result ≡ links.same_result a b }
-{
-    if a { b } else { !b }
 }
 
 /// Whether two declarations are the same but for initial values.

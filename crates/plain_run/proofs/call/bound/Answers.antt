@@ -1,6 +1,6 @@
 use Rattle.std.proofs.Common.{◌≡◌, ◌-◌, List, drop, map, arith, sym, ap, subst}
 use Rattle.c_lang.specs.Names.{Bytes}
-use Rattle.c_lang.specs.Steps.{bound}
+use Rattle.plain_run.specs.Steps.{bound}
 use Rattle.c_lang.specs.declared.stmt.Kind.{Kind}
 use Rattle.plain_run.specs.Names.{seen_locals}
 use Rattle.plain_run.specs.Values.{seen_value}

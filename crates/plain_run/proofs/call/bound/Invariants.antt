@@ -1,6 +1,6 @@
 use Rattle.std.proofs.Common.{◌≡◌, ◌≤◌, drop, length, map}
 use Rattle.c_lang.specs.Names.{Bytes}
-use Rattle.c_lang.specs.Steps.{bound}
+use Rattle.plain_run.specs.Steps.{bound}
 use Rattle.plain_run.specs.Names.{seen_locals}
 use Rattle.plain_run.specs.Values.{seen_value}
 use Rattle.plain_run.proofs.call.bound.Given as goal

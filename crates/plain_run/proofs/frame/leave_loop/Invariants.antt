@@ -1,5 +1,5 @@
 use Rattle.std.proofs.Common.{◌≡◌}
-use Rattle.c_lang.specs.Steps.{after_mark}
+use Rattle.plain_run.specs.Steps.{after_mark}
 use Rattle.plain_run.specs.Frames.{seen_items}
 use Rattle.plain_run.proofs.frame.leave_loop.Given as goal
 

@@ -1,6 +1,6 @@
 use Rattle.std.proofs.Common.{sym, ap₂, ◌∙◌, w32}
 use Rattle.std.proofs.lemmas.Int.{to_z-of_z}
-use Rattle.c_lang.specs.Steps.{row_with}
+use Rattle.plain_run.specs.Steps.{row_with}
 use Rattle.plain_run.proofs.RowLaws.{stores_element}
 use Rattle.plain_run.proofs.names.store_element.Goals as goal
 

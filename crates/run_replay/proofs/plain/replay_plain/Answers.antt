@@ -1,5 +1,5 @@
 use Rattle.std.proofs.Common.{List, ℤ, sym, ap, ◌∙◌, subst}
-use Rattle.c_lang.specs.PlainRun.{start, step}
+use Rattle.plain_run.specs.PlainRun.{start, step}
 use Rattle.c_lang.specs.declared.event.Event.{Event}
 use Rattle.c_lang.specs.declared.program.Program.{Program}
 use Rattle.plain_run.specs.Machines.{config_of, program_of}

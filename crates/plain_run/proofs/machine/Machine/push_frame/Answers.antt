@@ -1,8 +1,8 @@
 use Rattle.std.proofs.Common.{◌≡◌, [], ◌∷◌, ◌++◌, Option, unwrap_or, map, refl, ap, ◌∙◌, arith}
 use Rattle.std.proofs.lemmas.Grind.{common_steps}
-use Rattle.c_lang.specs.PlainRun.{plain_access}
+use Rattle.plain_run.specs.PlainRun.{plain_access}
 use Rattle.c_lang.specs.Programs.{no_func}
-use Rattle.c_lang.specs.Steps.{frame_of}
+use Rattle.plain_run.specs.Steps.{frame_of}
 use Rattle.c_lang.specs.declared.program.Func.{Func}
 use Rattle.plain_run.specs.Frames.{frame_with, dest_of, seen_frame}
 use Rattle.plain_run.specs.Machines.{program_of, store_of}

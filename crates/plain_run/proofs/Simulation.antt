@@ -1,7 +1,7 @@
 -- A machine that is matched step by step by another one shows the same prefixes.
 use Rattle.std.proofs.Common.{◌≡◌, ℕ, zero, suc, ◌<◌, ◌≤◌, ℤ, List, [], ◌∷◌, ◌++◌, refl, sym, ap, ◌∙◌, arith, append_assoc, ◌↔◌}
 use Rattle.c_lang.specs.declared.event.Event.{Event}
-use Rattle.c_lang.specs.Moves.{Move, Goes, Asks, Rests, follow, events_of, Shows}
+use Rattle.plain_run.specs.Moves.{Move, Goes, Asks, Rests, follow, events_of, Shows}
 
 module _ {D : Type 0} (step : D → Move D) where
   -- from d the machine shows these events and comes to e, in one step or more, without an answer

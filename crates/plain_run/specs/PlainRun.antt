@@ -3,8 +3,8 @@ use Rattle.std.specs.Prelude.{⊤, ℕ, ℤ, List, [], codes}
 use Rattle.std.specs.Str.{bytes_eq}
 use Rattle.c_lang.specs.Names.{Bytes}
 use Rattle.c_lang.specs.Values.{Value}
-use Rattle.c_lang.specs.Moves.{Move, Goes, events_of, Shows}
-use Rattle.c_lang.specs.Steps.{updated, Frame, Config, Live, Access, Special, frame_of, step_with}
+use Rattle.plain_run.specs.Moves.{Move, Goes, events_of, Shows}
+use Rattle.plain_run.specs.Steps.{updated, Frame, Config, Live, Access, Special, frame_of, step_with}
 use Rattle.c_lang.specs.Programs.{global_named, func_in, initial_value, initial_row}
 use Rattle.c_lang.specs.declared.event.Event.{Event}
 use Rattle.c_lang.specs.declared.stmt.Dest.TheVariants.{Nowhere}

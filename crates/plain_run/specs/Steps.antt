@@ -6,7 +6,7 @@ use Rattle.c_lang.specs.Names.{Bytes}
 use Rattle.c_lang.specs.Trees.{expression_of}
 use Rattle.c_lang.specs.Values.{Value, Num, Code, Null, Answer, number, is_zero}
 use Rattle.c_lang.specs.Evaluation.{Look, ev}
-use Rattle.c_lang.specs.Moves.{Move, Goes, Asks, Rests}
+use Rattle.plain_run.specs.Moves.{Move, Goes, Asks, Rests}
 use Rattle.c_lang.specs.declared.unit.Pos.{Pos}
 use Rattle.c_lang.specs.declared.event.Trap.{Trap}
 use Rattle.c_lang.specs.declared.event.Trap.TheVariants.{Assert, Index, NullCall}

@@ -1,13 +1,13 @@
 use Rattle.std.proofs.Common.{[], List, Option, unwrap_or, ap, ap₂, ◌∙◌}
-use Rattle.c_lang.specs.PlainRun.{plain_access}
+use Rattle.plain_run.specs.PlainRun.{plain_access}
 use Rattle.c_lang.specs.Programs.{no_func, func_named, global_named, initial_value, initial_row}
-use Rattle.c_lang.specs.Steps.{frame_of}
+use Rattle.plain_run.specs.Steps.{frame_of}
 use Rattle.c_lang.specs.declared.program.Func.{Func}
 use Rattle.c_lang.specs.declared.program.GlobalVar.{GlobalVar}
 use Rattle.c_lang.specs.declared.program.Program.{Program}
 use Rattle.c_lang.specs.declared.stmt.Dest.TheVariants.{Nowhere}
 use Rattle.plain_run.proofs.MachineLaws.{start-is}
-use Rattle.plain_run.proofs.machine.Machine.new.Goals as goal
+use Rattle.plain_run.proofs.machine.Machine.at_start.Goals as goal
 
 pub returns-clause-config : goal.returns-clause-config
 returns-clause-config c =

@@ -3,8 +3,8 @@ use Rattle.std.specs.Prelude.{ℕ, ℤ, pos, Bool, not, ◌&&◌, if◌then◌el
 use Rattle.std.specs.List.{starts_with}
 use Rattle.c_lang.specs.Names.{Bytes}
 use Rattle.c_lang.specs.Values.{Value, Num, is_zero}
-use Rattle.c_lang.specs.Moves.{Move, Goes, Asks, events_of, Shows}
-use Rattle.c_lang.specs.Steps.{Frame, Config, Live, Access, Does, Special, frame_of, before_rest, act, step_with}
+use Rattle.plain_run.specs.Moves.{Move, Goes, Asks, events_of, Shows}
+use Rattle.plain_run.specs.Steps.{Frame, Config, Live, Access, Does, Special, frame_of, before_rest, act, step_with}
 use Rattle.c_lang.specs.Programs.{global_named, func_named, func_in, no_func, initial_value, initial_row}
 use Rattle.c_lang.specs.Links.{cell_part, code_part}
 use Rattle.c_lang.specs.Version.{Version, is_old}
