@@ -42,9 +42,5 @@ pub fn smaller(a: Option<u8>, b: Option<u8>) -> Option<u8>
 pub fn fits(place: Kind, kind: Kind) -> Option<u8>
     ensures { result ≡ spec.fits place kind }
 {
-    if place.same_as(kind) {
-        None
-    } else {
-        Some(10)
-    }
+    if place.same_as(kind) { None } else { Some(10) }
 }

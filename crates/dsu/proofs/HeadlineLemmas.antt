@@ -24,13 +24,13 @@ read-is : (held : Text → Option Text) (unit : Unit) (name text all : Text) →
 read-is held unit name text all is_held known = rw known at is_held
 
 -- A text within the limit was read whole.
-read-whole : (held : Text → Option Text) (unit : Unit) (name text all : Text) → IsHeld held unit name text → held name ≡ Some all
+pub read-whole : (held : Text → Option Text) (unit : Unit) (name text all : Text) → IsHeld held unit name text → held name ≡ Some all
     → length text ≤ size_limit unit → text ≡ all
 read-whole held unit name text all is_held known small =
     let is = read-is held unit name text all is_held known in
     is ∙ take_all (size_limit unit + 1) all (omega (arith, ap length is, length-take (size_limit unit + 1) all))
 
-read-accepted : (held : Text → Option Text) (unit : Unit) (name text all : Text) → IsHeld held unit name text → held name ≡ Some all
+pub read-accepted : (held : Text → Option Text) (unit : Unit) (name text all : Text) → IsHeld held unit name text → held name ≡ Some all
     → length all ≤ size_limit unit → text ≡ all
 read-accepted held unit name text all is_held known small =
     read-is held unit name text all is_held known ∙ take_all (size_limit unit + 1) all (omega arith)
@@ -41,7 +41,7 @@ same-texts a b old new xform =
     ∙ ap (λ (t : Text). record b { new = t; xform = a.xform }) new
     ∙ ap (λ (t : Text). record b { xform = t }) xform
 
-appended : (before after : Option Text) (written text : Text) → before ≡ Some written → Appends before after text → after ≡ Some (written ++ text)
+pub appended : (before after : Option Text) (written text : Text) → before ≡ Some written → Appends before after text → after ≡ Some (written ++ text)
 appended None after written text is put = absurd (cc)
 appended (Some old) None written text is put = absurd put
 appended (Some old) (Some new) written text is put =
@@ -97,7 +97,7 @@ module _ (around : Around) (world : World) (texts : Texts) (hold : Hold around w
   accepted-merges ReadFailed outcome accepted fine = absurd (fine.reads outcome.0)
   accepted-merges WriteFailed outcome accepted fine = absurd (fine.writes outcome.0)
   accepted-merges NoMemory outcome accepted fine = inr refl
-  accepted-merges Deep outcome accepted fine = absurd outcome
+  accepted-merges Deep outcome accepted fine = absurd outcome.1
 
 pub writes-merged-text : (around : Around) (request : Option Request) (status : Status) → Outcome around request status → WritesMergedText around request status
 writes-merged-text around request status outcome = λ world texts written asked hold before is_done.

@@ -5,3 +5,8 @@ pub mod FormLemmas
 pub mod NameLemmas
 pub mod FirstFormLemmas
 pub mod HeadlineLemmas
+pub mod RunHeadlineLemmas
+pub mod RunLemmas
+pub mod TypedTextLemmas
+pub mod RunWordLemmas
+pub mod NumberLemmas

@@ -1,14 +1,18 @@
--- What `merge` owes where files and sink tell their bytes, as those in memory do. For the operating
+-- What `merge` and `run` owe where files and sink tell their bytes, as those in memory do. For the operating
 -- system's files and standard output that is trusted.
 use Rattle.std.specs.Prelude.{◌≡◌, ◌++◌, Option, Some, ◌⊎◌}
 use Rattle.outside.specs.Counts.{Rose}
-use Rattle.dsu.specs.Words.{Text, World, Request, Merge}
+use Rattle.c_lang.specs.declared.unit.Unit.TheVariants as unit
+use Rattle.c_lang.specs.declared.program.Program.{Program}
+use Rattle.dsu.specs.Words.{Text, World, RunRequest, Request, Merge, Run}
 use Rattle.dsu.specs.Conditions.{AllHold}
 use Rattle.dsu.specs.Merge.{Texts, conditions}
 use Rattle.dsu.specs.MergedText.{IsMergedText}
+use Rattle.dsu.specs.TypedText.{IsTypedText}
+use Rattle.dsu.specs.Run.{IsRunOf, GoesTooDeep}
 use Rattle.dsu.specs.Around.{Around}
 use Rattle.dsu.specs.declared.status.Status.{Status}
-use Rattle.dsu.specs.declared.status.Status.TheVariants.{Done, NoMemory}
+use Rattle.dsu.specs.declared.status.Status.TheVariants.{Done, NoMemory, Deep}
 
 -- The files hold these texts under the names of the request.
 pub record Hold (around : Around) (world : World) (texts : Texts) : Type 0 where
@@ -34,3 +38,17 @@ MergesWhatIsAccepted around request status =
     (world : World) (texts : Texts)
     → request ≡ Some (Merge world) → Hold around world texts → AllHold (conditions texts) → HadNoFault around
     → (status ≡ Done) ⊎ (status ≡ NoMemory)
+
+-- With `Done` the sink gained the lines of the run of the text that the file holds.
+abbrev pub WritesEvents : Around → Option Request → Status → Type 0
+WritesEvents around request status =
+    (run : RunRequest) (text written : Text)
+    → request ≡ Some (Run run) → around.held run.file ≡ Some text → around.written_before ≡ Some written → status ≡ Done
+    → (lines : Text) × (around.written_after ≡ Some (written ++ lines)) × IsRunOf run text lines
+
+-- A text that is a typed program is run, unless there was a fault, memory was wanted, or the run goes too deep.
+abbrev pub RunsWhatIsAccepted : Around → Option Request → Status → Type 0
+RunsWhatIsAccepted around request status =
+    (run : RunRequest) (text : Text) (program : Program)
+    → request ≡ Some (Run run) → around.held run.file ≡ Some text → IsTypedText unit.Merge 72 text program → HadNoFault around
+    → (status ≡ Done) ⊎ ((status ≡ NoMemory) ⊎ ((status ≡ Deep) × GoesTooDeep run text))

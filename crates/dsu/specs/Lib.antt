@@ -1,3 +1,4 @@
+pub mod Numbers
 pub mod Words
 pub mod Replies
 pub mod Held
@@ -5,6 +6,9 @@ pub mod Conditions
 pub mod FirstForm
 pub mod MergedText
 pub mod Merge
+pub mod TypedText
+pub mod Run
+pub mod Stops
 pub mod Around
 pub mod Outcome
 pub mod Seen

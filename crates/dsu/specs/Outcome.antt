@@ -1,19 +1,27 @@
 -- What a call of the tool answers and puts, by the status.
-use Rattle.std.specs.Prelude.{⊤, ◌≡◌, List, Option, None, Some, IsNone, IsSomeAnd, Contains}
+use Rattle.std.specs.Prelude.{⊤, ◌≡◌, List, [], ◌∷◌, Option, None, Some, IsNone, IsSomeAnd, Contains}
 use Rattle.outside.specs.Counts.{Rose}
-use Rattle.dsu.specs.Words.{Text, Request, Merge}
+use Rattle.dsu.specs.Words.{Text, Request, Merge, Run}
 use Rattle.dsu.specs.Replies.{Reply, usage_line}
 use Rattle.dsu.specs.Around.{Around, Put, PutInPart, PutNothing}
 use Rattle.dsu.specs.Merge.{names_of, MergeAllows}
+use Rattle.dsu.specs.Run.{RunAllows, RunGoesDeep}
 use Rattle.dsu.specs.declared.status.Status.{Status}
 use Rattle.dsu.specs.declared.status.Status.TheVariants.{Done, NotProved, Refused, Usage, ReadFailed, WriteFailed, NoMemory, Deep}
 
 -- A line for each command: the files that it names, and what it may reply.
 abbrev pub files_of : Request → List Text
 files_of (Merge world) = names_of world
+files_of (Run run) = run.file ∷ []
 
 abbrev pub Allows : (Text → Option Text) → Request → Reply → Type 0
 Allows held (Merge world) reply = MergeAllows held world reply
+Allows held (Run run) reply = RunAllows held run reply
+
+-- The command asks for one frame more than a run may have.
+abbrev pub GoesDeep : (Text → Option Text) → Request → Type 0
+GoesDeep held (Merge world) = ⊥
+GoesDeep held (Run run) = RunGoesDeep held run
 
 -- what may be put where the words ask for this: the usage line, or a reply
 abbrev pub MayPut : (Text → Option Text) → Option Request → Text → Type 0
@@ -25,7 +33,7 @@ abbrev pub Replied : Around → Option Request → Status → Type 0
 Replied around request status =
     IsSomeAnd request (λ asked. (reply : Reply) × Allows around.held asked reply × (reply.status ≡ status) × Put around reply.text)
 
--- The whole call, status by status. No command goes too deep yet.
+-- The whole call, status by status.
 abbrev pub Outcome : Around → Option Request → Status → Type 0
 Outcome around request Done = Replied around request Done
 Outcome around request NotProved = Replied around request NotProved
@@ -39,7 +47,7 @@ Outcome around request WriteFailed =
     Rose around.write_faults_before around.write_faults_after
     × ((text : Text) × MayPut around.held request text × PutInPart around text)
 Outcome around request NoMemory = PutNothing around
-Outcome around request Deep = ⊥
+Outcome around request Deep = PutNothing around × IsSomeAnd request (GoesDeep around.held)
 
 -- These put nothing.
 abbrev pub PutsNothing : Status → Type 0

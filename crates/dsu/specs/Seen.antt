@@ -1,18 +1,40 @@
 -- The program's data as plain data.
+use Rattle.std.specs.Prelude.{◌≡◌, ◌<◌, ℤ, List, [], ◌∷◌, length, Vec}
+use Rattle.std.specs.Borrow.{Bor}
+use Rattle.std.specs.declared.alloc.Global.{Global}
 use Rattle.dsu.specs.Words as plain
 use Rattle.dsu.specs.Merge as merge
 use Rattle.dsu.specs.Replies as replies
 use Rattle.dsu.specs.declared.words.World.{World}
 use Rattle.dsu.specs.declared.words.Request.{Request}
-use Rattle.dsu.specs.declared.words.Request.TheVariants.{Merge}
+use Rattle.dsu.specs.declared.words.Request.TheVariants.{Merge, Run}
+use Rattle.dsu.specs.declared.run_words.RunRequest.{RunRequest}
+use Rattle.dsu.specs.declared.run_words.Chosen.{Chosen}
+use Rattle.dsu.specs.declared.run_words.Chosen.TheVariants.{Nothing, One, Several}
 use Rattle.dsu.specs.declared.merge.Texts.{Texts}
 use Rattle.dsu.specs.declared.reply.Reply.{Reply}
 
 abbrev pub seen_world : World → plain.World
 seen_world world = record { old = world.old.now; new = world.new.now; xform = world.xform.now }
 
+abbrev pub seen_text : Bor plain.Text → plain.Text
+seen_text text = text.now
+
+abbrev pub seen_numbers : Vec ℤ Global → List ℤ
+seen_numbers numbers = numbers.items
+
+abbrev pub seen_run : RunRequest → plain.RunRequest
+seen_run run = record { file = run.file.now; answers = run.answers.items; steps = run.steps }
+
 abbrev pub seen : Request → plain.Request
 seen (Merge world) = plain.Merge (seen_world world)
+seen (Run run) = plain.Run (seen_run run)
+
+-- what was chosen: nothing, one text, or several
+abbrev pub IsChosen : List plain.Text → Chosen → Type 0
+IsChosen texts Nothing = texts ≡ []
+IsChosen texts (One text) = texts ≡ text.now ∷ []
+IsChosen texts Several = 1 < length texts
 
 abbrev pub seen_reply : Reply → replies.Reply
 seen_reply reply = record { status = reply.status; text = reply.text.items }

@@ -4,13 +4,19 @@
 
 mod merge;
 mod names;
+mod numbers;
 mod reading;
 mod reply;
+mod run;
+#[cfg(test)]
+mod run_tests;
+mod run_words;
 mod status;
 mod stop;
 #[cfg(test)]
 mod tests;
 mod top_call;
+mod typed_text;
 mod words;
 
 use outside::{DiskFiles, OutSink};

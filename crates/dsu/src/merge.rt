@@ -1,6 +1,6 @@
 //! The command `merge`.
 
-ghost use Rattle.std.specs.Prelude.{◌≡◌, ◌≤◌, ℕ, List, IfOk, MatchResult};
+ghost use Rattle.std.specs.Prelude.{◌≡◌, ◌≤◌, ℕ, List, IfOk, IsErrOf, MatchResult};
 ghost use Rattle.dsu.specs.Conditions.{Checks, IsRefusedBy};
 ghost use Rattle.dsu.specs.Held.{HasReadCause};
 ghost use Rattle.dsu.specs.Merge.{AreHeld, MergeAllows, names_of, Merges, IsMergeOfTexts, conditions, size_conditions, form_conditions};
@@ -40,6 +40,7 @@ struct Programs {
 #[tactic(auto, using(crate::proofs::ReadLemmas::third))]
 fn read_texts<F: Files>(alloc: Global, world: &World<'_>, files: &mut F) -> Result<Texts, Stop>
     ensures texts { IfOk result (λ texts. AreHeld (F.held files.old) (seen_world world.now) (seen_texts texts)) }
+    ensures shallow { IsErrOf result Stop.Deep → ⊥ }
     ensures cause { HasReadCause (names_of (seen_world world.now))
         (F.faults files.old) (F.faults files.new) (F.failed files.new) result }
 {
@@ -56,6 +57,7 @@ pub(crate) fn merge_reply<F: Files>(
     files: &mut F,
 ) -> Result<Reply, Stop>
     ensures reply { IfOk result (λ reply. MergeAllows (F.held files.old) (seen_world world.now) (seen_reply reply)) }
+    ensures shallow { IsErrOf result Stop.Deep → ⊥ }
     ensures cause { HasReadCause (names_of (seen_world world.now))
         (F.faults files.old) (F.faults files.new) (F.failed files.new) result }
 {

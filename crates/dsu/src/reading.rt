@@ -18,6 +18,7 @@ pub(crate) fn read_text<F: Files>(
     ensures held { (other : List ℕ) → F.held files.new other ≡ F.held files.old other }
     ensures later { F.faults files.old ≤ F.faults files.new }
     ensures rose { IsErrOf result Stop.ReadFailed → Rose (F.faults files.old) (F.faults files.new) }
+    ensures shallow { IsErrOf result Stop.Deep → ⊥ }
     ensures asked { IsErrOf result Stop.ReadFailed → F.failed files.new ≡ name.now }
 {
     match files.read(alloc, name, limit_of(unit) + 1) {

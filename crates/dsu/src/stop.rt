@@ -1,6 +1,8 @@
 ghost use Rattle.std.specs.Prelude.{◌≡◌};
 ghost use Rattle.dsu.specs.declared.stop.Stop.TheVariants.{NoMemory};
+ghost use Rattle.dsu.specs.Stops.{stop_of};
 
+use plain_run::RunError;
 use std::alloc::AllocError;
 
 /// Why there is no reply.
@@ -8,6 +10,8 @@ use std::alloc::AllocError;
 pub(crate) enum Stop {
     ReadFailed,
     NoMemory,
+    /// A run makes one frame too many.
+    Deep,
 }
 
 impl From<AllocError> for Stop {
@@ -15,5 +19,16 @@ impl From<AllocError> for Stop {
 
     fn from(_error: AllocError) -> Stop {
         Stop::NoMemory
+    }
+}
+
+impl From<RunError> for Stop {
+    ghost from_gives = { λ error stop. stop ≡ stop_of error };
+
+    fn from(error: RunError) -> Stop {
+        match error {
+            RunError::NoMemory => Stop::NoMemory,
+            RunError::Deep => Stop::Deep,
+        }
     }
 }

@@ -16,6 +16,27 @@ client_out(n);
 return 0;
 }";
 
+// The merged text of a version that shows its number twice, and is updated between.
+pub(crate) const MERGED_SUM: &str = "#include \"dsu.h\"
+#line 1 \"merge\"
+int dsu_now = 0;
+#line 2 \"old\"
+int dsu_both_n = 1;
+#line 3 \"old\"
+int dsu_old_main(void) {
+client_out(dsu_both_n);
+if (dsu_now == 0) { int dsu_c = dsu_choice(1); if (dsu_c != 0) { dsu_now = 1; dsu_xform_dsu_transform(); } }
+client_out(dsu_both_n);
+return 0;
+}
+#line 1 \"xform\"
+void dsu_xform_dsu_transform(void) {
+dsu_both_n = dsu_both_n + 10;
+}
+#line 3 \"old\"
+int main(void) { int dsu_r = dsu_old_main(); return dsu_r; }
+";
+
 const TRANSFORMER: &str = "void dsu_transform(void) {
 n = 7;
 }";
@@ -179,6 +200,22 @@ fn run(
     Ok((status, out.bytes().to_vec(alloc)?))
 }
 
+/// The status and what was put for `run` with these options, where the file holds the text.
+pub(crate) fn run_merged(
+    alloc: Global,
+    text: &str,
+    options: &[&str],
+) -> Result<(Status, Vec<u8>), AllocError> {
+    let mut files = files(alloc, &[("merged.c", Text(text))], &[])?;
+    let mut out = sink(alloc, &[])?;
+    let mut list = words(alloc, &["run", "merged.c"])?;
+    for option in options {
+        list.push(String::from_str(alloc, option)?)?;
+    }
+    let status = dsu(alloc, &list, &mut files, &mut out);
+    Ok((status, out.bytes().to_vec(alloc)?))
+}
+
 #[test]
 fn merges_or_refuses(rt: HostRuntime) -> Result<(), Fail> {
     let alloc = rt.alloc();
@@ -252,7 +289,7 @@ fn tells_faults(rt: HostRuntime) -> Result<(), Fail> {
 #[test]
 fn tells_usage(rt: HostRuntime) -> Result<(), Fail> {
     let alloc = rt.alloc();
-    let lists: [&[&str]; 9] = [
+    let lists: [&[&str]; 12] = [
         &[],
         &["merge", "a", "b"],
         &["merge", "a", "b", "c", "d"],
@@ -262,6 +299,9 @@ fn tells_usage(rt: HostRuntime) -> Result<(), Fail> {
         &["merge", "--", "a", "b"],
         &["merge", "a", "b", "c", "--points=1"],
         &["--help"],
+        &["run"],
+        &["run", "-"],
+        &["run", "a", "b"],
     ];
     for list in lists {
         let (status, put) = run(alloc, list, [Missing, Missing, Missing], &[], &[])?;

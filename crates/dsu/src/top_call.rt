@@ -1,13 +1,14 @@
-ghost use Rattle.std.specs.Prelude.{◌≡◌, ℕ, ◌⊎◌, List, [], ◌∷◌, Option, None, Some, IfOk, map, string_bytes};
+ghost use Rattle.std.specs.Prelude.{◌≡◌, ℕ, ◌⊎◌, List, [], ◌∷◌, Option, None, Some, IfOk, IsErrOf, map, string_bytes};
 ghost use Rattle.dsu.specs.Words.{request_of};
 ghost use Rattle.dsu.specs.Seen.{seen, seen_reply};
 ghost use Rattle.dsu.specs.Held.{HasReadCause};
 ghost use Rattle.dsu.specs.Around.{Puts, around};
-ghost use Rattle.dsu.specs.Headline.{WritesMergedText, MergesWhatIsAccepted};
-ghost use Rattle.dsu.specs.Outcome.{Outcome, Allows, files_of, PutsNothing};
+ghost use Rattle.dsu.specs.Headline.{MergesWhatIsAccepted, RunsWhatIsAccepted, WritesEvents, WritesMergedText};
+ghost use Rattle.dsu.specs.Outcome.{Outcome, Allows, GoesDeep, files_of, PutsNothing};
 
 use crate::merge::merge_reply;
 use crate::reply::Reply;
+use crate::run::run_reply;
 use crate::status::Status;
 use crate::stop::Stop;
 use crate::words::{Request, read_request};
@@ -24,6 +25,7 @@ use std::alloc::Global;
 /// - `ReadFailed`: only where reading one of the named files failed; nothing was put.
 /// - `WriteFailed`: only where the sink failed; a prefix of the output or of the line was put.
 /// - `NoMemory`: memory was wanted; nothing was put.
+/// - `Deep`: exactly where a run makes one frame more than 10,000; nothing was put.
 ///
 /// What the merged text is, `specs/MergedText.antt` says; `specs/Headline.antt` says when it is
 /// written.
@@ -35,6 +37,10 @@ pub fn dsu<F: Files, S: Sink>(alloc: Global, words: &[String], files: &mut F, ou
     ensures writes { WritesMergedText (around F.held F.faults F.failed S.written S.faults files.old files.new out.old out.new)
         (request_of (map string_bytes words.now)) result }
     ensures merges { MergesWhatIsAccepted (around F.held F.faults F.failed S.written S.faults files.old files.new out.old out.new)
+        (request_of (map string_bytes words.now)) result }
+    ensures shows { WritesEvents (around F.held F.faults F.failed S.written S.faults files.old files.new out.old out.new)
+        (request_of (map string_bytes words.now)) result }
+    ensures runs { RunsWhatIsAccepted (around F.held F.faults F.failed S.written S.faults files.old files.new out.old out.new)
         (request_of (map string_bytes words.now)) result }
 {
     answer_words(alloc, words, files, out)
@@ -51,9 +57,10 @@ fn answer_words<F: Files, S: Sink>(
     ensures no_read { request_of (map string_bytes words.now) ≡ None → files.new ≡ files.old }
     ensures no_put { PutsNothing result → out.new ≡ out.old }
 {
-    match read_request(words) {
-        Some(request) => answer(alloc, &request, files, out),
-        None => put(out, b"usage: dsu COMMAND FILES OPTIONS\n", Status::Usage),
+    match read_request(alloc, words) {
+        Ok(Some(request)) => answer(alloc, &request, files, out),
+        Ok(None) => put(out, b"usage: dsu COMMAND FILES OPTIONS\n", Status::Usage),
+        Err(_) => Status::NoMemory,
     }
 }
 
@@ -71,17 +78,20 @@ fn answer<F: Files, S: Sink>(
         Ok(reply) => put(out, &reply.text, reply.status),
         Err(Stop::ReadFailed) => Status::ReadFailed,
         Err(Stop::NoMemory) => Status::NoMemory,
+        Err(Stop::Deep) => Status::Deep,
     }
 }
 
 // A line for each command.
 fn reply_to<F: Files>(alloc: Global, request: &Request<'_>, files: &mut F) -> Result<Reply, Stop>
     ensures reply { IfOk result (λ reply. Allows (F.held files.old) (seen request.now) (seen_reply reply)) }
+    ensures deep { IsErrOf result Stop.Deep → GoesDeep (F.held files.old) (seen request.now) }
     ensures cause { HasReadCause (files_of (seen request.now))
         (F.faults files.old) (F.faults files.new) (F.failed files.new) result }
 {
     match request {
         Request::Merge(world) => merge_reply(alloc, world, files),
+        Request::Run(run) => run_reply(alloc, run, files),
     }
 }
 

@@ -5,6 +5,9 @@ ghost use Rattle.std.specs.List.{list_any};
 ghost use Rattle.dsu.specs.Words as spec;
 ghost use Rattle.dsu.specs.Seen.{seen, seen_world};
 
+use crate::run_words::{RunRequest, read_run};
+use std::alloc::{AllocError, Global};
+
 /// The names of the files of an update.
 #[derive(Clone, Copy, Debug)]
 pub(crate) struct World<'a> {
@@ -14,22 +17,38 @@ pub(crate) struct World<'a> {
 }
 
 /// What the words ask for.
-#[derive(Clone, Copy, Debug)]
+#[derive(Debug, Drop)]
 pub(crate) enum Request<'a> {
     /// The merged text.
     Merge(World<'a>),
+    /// The events of a merged text's run.
+    Run(RunRequest<'a>),
 }
 
-/// The request of the words, or `None` where they ask for nothing. It takes no memory.
-pub(crate) fn read_request<'a>(words: &'a [String]) -> Option<Request<'a>>
-    ensures { option_map seen result ≡ spec.request_of (map string_bytes words.entry.now) }
+/// The request of the words, or `None` where they ask for nothing. The only error is want of
+/// memory.
+pub(crate) fn read_request<'a>(
+    alloc: Global,
+    words: &'a [String],
+) -> Result<Option<Request<'a>>, AllocError>
+    ensures { IfOk result (λ request. option_map seen request ≡ spec.request_of (map string_bytes words.entry.now)) }
 {
     let [command, rest @ ..] = words else {
-        return None;
+        return Ok(None);
     };
     match command.as_str() {
-        "merge" => read_merge(rest),
-        _ => None,
+        "merge" => Ok(read_merge(rest)),
+        "run" => run_request(alloc, rest),
+        _ => Ok(None),
+    }
+}
+
+fn run_request<'a>(alloc: Global, words: &'a [String]) -> Result<Option<Request<'a>>, AllocError>
+    ensures { IfOk result (λ request. option_map seen request ≡ option_map spec.Run (spec.run_of (map string_bytes words.entry.now))) }
+{
+    match read_run(alloc, words)? {
+        Some(run) => Ok(Some(Request::Run(run))),
+        None => Ok(None),
     }
 }
 
@@ -71,7 +90,8 @@ fn has_option(words: &[String]) -> bool
     words.iter().any(|word| is_option(word.as_str()))
 }
 
-fn is_option(word: &str) -> bool
+/// Whether the word begins with `-`.
+pub(crate) fn is_option(word: &str) -> bool
     ensures { result ≡ spec.is_option word.now }
 {
     word.as_bytes().starts_with(b"-")

@@ -1,38 +1,10 @@
 use crate::{Close, Replay, replay_plain};
-use c_lang::{
-    Dest, Event, Expr, Fail, Func, GlobalVar, Kind, Name, Pos, Program, Shape, Stmt, Trap, Unit,
-};
+use c_lang::{Fail, Unit};
 use c_lexer::lex;
 use c_parser::parse;
+use c_types::{Typed, check};
 use plain_run::{Answers, RunError};
-use sqlite_items::Items;
 use std::alloc::{AllocError, Global};
-
-fn trap_word(trap: Trap) -> &'static str {
-    match trap {
-        Trap::Assert => "assert",
-        Trap::Overflow => "overflow",
-        Trap::Divide => "divide",
-        Trap::Index => "index",
-        Trap::NullCall => "nullcall",
-    }
-}
-
-fn event_text(alloc: Global, event: &Event) -> Result<String, AllocError> {
-    match event {
-        Event::Input(number) => format!(in alloc; "in {number}"),
-        Event::Output(number) => format!(in alloc; "out {number}"),
-        Event::Choice(k, chosen) => {
-            let chosen = if *chosen { 1 } else { 0 };
-            format!(in alloc; "choice {k} {chosen}")
-        }
-        Event::Fault(trap, pos) => {
-            let word = trap_word(*trap);
-            format!(in alloc; "fault {word} {} {}", pos.unit, pos.line)
-        }
-        Event::End(number) => format!(in alloc; "end {number}"),
-    }
-}
 
 fn close_word(close: Close) -> &'static str {
     match close {
@@ -46,8 +18,7 @@ fn close_word(close: Close) -> &'static str {
 fn replay_text(alloc: Global, replay: &Replay) -> Result<String, AllocError> {
     let mut text = String::new(alloc);
     for event in &replay.events {
-        text.push_str(event_text(alloc, event)?.as_str())?;
-        text.push_str(", ")?;
+        text.push_str(format!(in alloc; "{event}, ")?.as_str())?;
     }
     text.push_str(close_word(replay.close))?;
     Ok(text)
@@ -55,7 +26,7 @@ fn replay_text(alloc: Global, replay: &Replay) -> Result<String, AllocError> {
 
 fn outcome(
     alloc: Global,
-    program: &Program,
+    program: &Typed,
     answers: &[i32],
     steps: u32,
 ) -> Result<String, AllocError> {
@@ -66,17 +37,18 @@ fn outcome(
     }
 }
 
+fn typed(alloc: Global, text: &[u8]) -> Result<Typed, Fail> {
+    let tokens = lex(alloc, Unit::Merge, text)?;
+    let program = parse(alloc, Unit::Merge, 72, &tokens)?;
+    check(alloc, Unit::Merge, program)
+}
+
 /// What a merged text shows.
 fn shown(alloc: Global, text: &[u8], answers: &[i32], steps: u32) -> Result<String, AllocError> {
-    let tokens = match lex(alloc, Unit::Merge, text) {
-        Ok(tokens) => tokens,
-        Err(Fail::NoMemory) => return Err(AllocError),
-        Err(Fail::Refused(_)) => return format!(in alloc; "no tokens"),
-    };
-    match parse(alloc, Unit::Merge, 72, &tokens) {
+    match typed(alloc, text) {
         Ok(program) => outcome(alloc, &program, answers, steps),
         Err(Fail::NoMemory) => Err(AllocError),
-        Err(Fail::Refused(_)) => format!(in alloc; "no program"),
+        Err(Fail::Refused(refusal)) => format!(in alloc; "refused {}", refusal.number),
     }
 }
 
@@ -209,7 +181,7 @@ fn statements_do_what_they_say(rt: HostRuntime) -> Result<(), AllocError> {
         ),
         (
             b"int x = 1;\n\
-              int f(int x, int y) { x = x + y; return x; }\n\
+              int f(int z, int y) { z = z + y; return z; }\n\
               int main(void) { int a = f(3, 4); client_out(a); return x; }",
             "out 7, end 1, ended",
         ),
@@ -242,72 +214,30 @@ fn statements_do_what_they_say(rt: HostRuntime) -> Result<(), AllocError> {
     Ok(())
 }
 
-fn at(line: u32) -> Pos {
-    Pos {
-        unit: Unit::Merge,
-        line,
-    }
-}
-
-/// `return a;`, where `a` is the result of a call through `p`.
-fn calls_pointer(alloc: Global) -> Result<Items<Stmt>, AllocError> {
-    let call = Stmt::CallBy {
-        pos: at(3),
-        dest: Dest::Fresh(Kind::Int, Name::new(alloc, b"a")?),
-        pointer: Name::new(alloc, b"p")?,
-        args: Items::from_vec(vec![in alloc; Expr::Lit(4)]?),
-    };
-    let last = Stmt::Return {
-        pos: at(4),
-        value: Some(Expr::Var(Name::new(alloc, b"a")?)),
-    };
-    Ok(Items::from_vec(vec![in alloc; call, last]?))
-}
-
-fn returns_argument(alloc: Global) -> Result<Func, AllocError> {
-    let value = Some(Expr::Var(Name::new(alloc, b"x")?));
-    let body = vec![in alloc; Stmt::Return { pos: at(2), value }]?;
-    Ok(Func {
-        name: Name::new(alloc, b"same")?,
-        params: Items::from_vec(vec![in alloc; (Kind::Int, Name::new(alloc, b"x")?)]?),
-        gives: true,
-        body: Items::from_vec(body),
-        pos: at(2),
-    })
-}
-
-/// A program whose `main` calls through a pointer that is at first null or the function named.
-fn pointer_program(alloc: Global, first: Option<Name>) -> Result<Program, AllocError> {
-    let pointer = GlobalVar {
-        name: Name::new(alloc, b"p")?,
-        shape: Shape::Fp(1, first),
-        pos: at(1),
-    };
-    let main = Func {
-        name: Name::new(alloc, b"main")?,
-        params: Items::new(alloc),
-        gives: true,
-        body: calls_pointer(alloc)?,
-        pos: at(3),
-    };
-    let same = returns_argument(alloc)?;
-    Ok(Program {
-        globals: Items::from_vec(vec![in alloc; pointer]?),
-        protos: Items::new(alloc),
-        funcs: Items::from_vec(vec![in alloc; same, main]?),
-        early: Items::new(alloc),
-    })
-}
-
 #[test]
 fn pointers_are_called(rt: HostRuntime) -> Result<(), AllocError> {
-    let program = pointer_program(rt.alloc(), None)?;
-    let said = outcome(rt.alloc(), &program, &[], 100)?;
-    assert_eq!(rt; said.as_str(), "fault nullcall merge 3, faulted");
-    let same = Name::new(rt.alloc(), b"same")?;
-    let program = pointer_program(rt.alloc(), Some(same))?;
-    let said = outcome(rt.alloc(), &program, &[], 100)?;
-    assert_eq!(rt; said.as_str(), "end 4, ended");
+    let cases: [(&[u8], &str); 3] = [
+        (
+            b"int (*p)(int);\nint same(int x) { return x; }\n\
+              int main(void) { int a = p(4); return a; }",
+            "fault nullcall merge 3, faulted",
+        ),
+        (
+            b"int (*p)(int) = same;\nint same(int x) { return x; }\n\
+              int main(void) { int a = p(4); return a; }",
+            "end 4, ended",
+        ),
+        (
+            b"int (*p)(int) = same;\nint same(int x) { return x; }\n\
+              int main(void) { int (*q)(int) = 0; int b = p == q; q = p;\n\
+              int c = q == same; return 10 * b + c; }",
+            "end 1, ended",
+        ),
+    ];
+    for (text, want) in cases {
+        let said = shown(rt.alloc(), text, &[], 100)?;
+        assert_eq!(rt; said.as_str(), want);
+    }
     Ok(())
 }
 
