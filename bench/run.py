@@ -1,85 +1,17 @@
 #!/usr/bin/env python3
-"""Measures the plain machine: steps a second, and memory over a long run.
+"""Measures `dsu run`: steps a second, memory over a long run, and the start of a large text.
 
-usage: bench/run.py FOLDER
+Build the program first, by `rt run` in crates/dsu. Then run this script at the top of the repository.
 
-FOLDER is made if need be. A copy of the crates is proved and built there, with a small program that reads a
-number of steps and a merged text from standard input, parses the text and makes the steps. Each text is run
-three times with 100,000 and with 10,000,000 steps, and the difference of the quickest runs' processor times
-counts, so reading and parsing don't. This script ends with status 1 where a loop over a few names makes fewer
-than 500,000 steps a second, or where the long run of it takes more than 1 MB more memory than the short one.
+Each loop is run three times with 100,000 and with 10,000,000 steps, and the difference of the quickest runs'
+processor times counts. The large texts have 5, 10 and 20 MB and make one step. This script ends with status 1
+where a loop over a few names makes fewer than 500,000 steps a second, where its long run takes more than 1 MB
+more memory than its short one, or where 10 MB take more than 10 seconds or 4 GB until the first step is made.
 """
-import pathlib, sys
-from measuring import build, measure
+import os, pathlib, subprocess, sys, tempfile
+from measuring import merged
 
-PROGRAM = '''//! Reads a number of steps, a line feed and a merged text from standard input, makes the
-//! steps, and prints how many were made before the run ended.
-#![tactic(auto)]
-
-use c_lang::{Program, Unit};
-use c_lexer::lex;
-use c_parser::parse;
-use plain_run::{Answers, Machine, Step};
-use std::alloc::Global;
-use std::io;
-use std::io::Read;
-
-// The number before the first line feed.
-fn number(text: &[u8]) -> u32 {
-    let mut number = 0u32;
-    for byte in text {
-        if *byte == 10 {
-            return number;
-        }
-        number = number.wrapping_mul(10).wrapping_add((*byte % 16) as u32);
-    }
-    number
-}
-
-fn behind_line(text: &[u8]) -> &[u8] {
-    match text.iter().position(|byte| *byte == 10) {
-        Some(at) => &text[at..],
-        None => text,
-    }
-}
-
-fn run(alloc: Global, program: &Program, steps: u32) -> u32 {
-    let Ok(mut machine) = Machine::new(alloc, program) else {
-        return 0;
-    };
-    let mut answers = Answers::new(Vec::new(alloc));
-    for made in 0..steps {
-        match machine.step(alloc, &mut answers) {
-            Ok(Step::Quiet) => {}
-            Ok(Step::Shown(_)) => {}
-            Ok(Step::Waiting) => return made,
-            Ok(Step::Stopped) => return made,
-            Err(_) => return made,
-        }
-    }
-    steps
-}
-
-fn run_text(alloc: Global, text: &[u8], steps: u32) -> u32 {
-    let Ok(tokens) = lex(alloc, Unit::Merge, text) else {
-        return 1;
-    };
-    match parse(alloc, Unit::Merge, 72, &tokens) {
-        Ok(program) => run(alloc, &program, steps),
-        Err(_) => 2,
-    }
-}
-
-fn main(rt: HostRuntime) -> io::Result<()> {
-    let mut text = Vec::new(rt.alloc());
-    rt.reader().read_to_end(&mut text)?;
-    let made = run_text(rt.alloc(), behind_line(&text), number(&text));
-    println!(rt; "{made}")?;
-    Ok(())
-}
-'''
-
-CRATES = ["c_lang", "c_lexer", "c_expressions", "c_statements", "c_parser", "plain_run"]
+PROGRAM = pathlib.Path("crates/dsu/out/dsu").resolve()
 
 LOOP = b"""int n = 0;
 int main(void) {
@@ -107,30 +39,52 @@ i = j % 1000;
 }
 """
 
+# What the functions of a large text name, and a start for them.
+DECLARATIONS = b"""int dsu_now = 0;
+int dsu_both_total = 0;
+int dsu_both_table[100];
+void dsu_xform_dsu_transform(void) {
+dsu_both_total = 0;
+}
+int main(void) {
+return 0;
+}
+"""
 
-def timed(program, path, text, steps):
-    """The quickest of three runs in seconds, and the largest run's memory in bytes."""
-    path.write_bytes(b"%d\n" % steps + text)
-    made, seconds, memory = measure(program, path, 3)
-    if made != steps:
-        sys.exit(f"the program made {made} steps")
-    return seconds, memory
+
+def measure(path, steps):
+    """The quickest of three runs in seconds of processor time, and the largest run's memory in bytes."""
+    times, memory = [], 0
+    for _ in range(3):
+        run = subprocess.Popen([PROGRAM, "run", path, f"--steps={steps}"], stdout=subprocess.DEVNULL)
+        _, status, used = os.wait4(run.pid, 0)
+        if status:
+            sys.exit(f"dsu ended with {os.waitstatus_to_exitcode(status)}")
+        times.append(used.ru_utime + used.ru_stime)
+        memory = max(memory, used.ru_maxrss * 1024)
+    return min(times), memory
 
 
 def main():
-    folder = pathlib.Path(sys.argv[1])
-    [program] = build(folder, CRATES, [("run_bench", "c_lang c_lexer c_parser plain_run", PROGRAM)])
-    good = True
-    few, many = 100_000, 10_000_000
-    for name, text in [("a loop", LOOP), ("a loop of calls", CALLS)]:
-        short, before = timed(program, folder / "text", text, few)
-        long, after = timed(program, folder / "text", text, many)
-        speed = (many - few) / (long - short)
-        print(f"{name}: {speed:,.0f} steps a second")
-        print(f"  memory: {before / 1e6:.1f} MB after {few:,} steps, {after / 1e6:.1f} MB after {many:,}")
-        if name == "a loop":
-            good = good and speed >= 500_000
-        good = good and after - before <= 1_000_000
+    good, few, many = True, 100_000, 10_000_000
+    with tempfile.TemporaryDirectory() as folder:
+        path = pathlib.Path(folder) / "merged.c"
+        for name, text in [("a loop", LOOP), ("a loop of calls", CALLS)]:
+            path.write_bytes(text)
+            short, before = measure(path, few)
+            long, after = measure(path, many)
+            speed = (many - few) / (long - short)
+            print(f"{name}: {speed:,.0f} steps a second")
+            print(f"  memory: {before / 1e6:.1f} MB after {few:,} steps, {after / 1e6:.1f} MB after {many:,}")
+            if name == "a loop":
+                good = good and speed >= 500_000
+            good = good and after - before <= 1_000_000
+        for size in [5_000_000, 10_000_000, 20_000_000]:
+            path.write_bytes(merged(size) + DECLARATIONS)
+            seconds, memory = measure(path, 1)
+            print(f"{size / 1e6:.0f} MB: {seconds:.2f} s and {memory / 1e6:.0f} MB until the first step")
+            if size == 10_000_000:
+                good = good and seconds <= 10 and memory <= 4_000_000_000
     sys.exit(0 if good else 1)
 
 
