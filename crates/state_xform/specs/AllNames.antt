@@ -9,11 +9,11 @@ use Rattle.state_xform.specs.Walk.{found, sets_element_in}
 use Rattle.state_xform.specs.declared.coverage.Sets.{Sets}
 use Rattle.state_xform.specs.declared.always.PathNames.{PathNames}
 
--- of one name
+-- what is found of one name
 abbrev pub sets_at : PathNames → Bytes → Sets
 sets_at names x = found (has names.behind x) (has names.returned x)
 
--- of each name
+-- of each name this is found
 abbrev pub IsFound : PathNames → (Bytes → Sets) → Type 0
 IsFound names sets = (x : Bytes) → sets_at names x ≡ sets x
 

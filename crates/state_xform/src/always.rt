@@ -13,13 +13,15 @@ use crate::names::NameSet;
 use c_lang::{Dest, Name, Stmt};
 use std::alloc::{AllocError, Global};
 
-// The names that each path sets which goes on, and those that each path sets which returns.
+// What the walk finds of a list of statements: the names that each path going on behind it sets, and
+// the names that each path returning in it sets.
 #[derive(Drop)]
 struct PathNames<'p> {
     behind: NameSet<'p>,
     returned: NameSet<'p>,
 }
 
+// One branch or the other.
 fn both<'p>(yes: PathNames<'p>, no: PathNames<'p>) -> PathNames<'p>
     ensures { IsFound result (λ x. either (sets_at yes.entry x) (sets_at no.entry x)) }
 {
@@ -29,6 +31,7 @@ fn both<'p>(yes: PathNames<'p>, no: PathNames<'p>) -> PathNames<'p>
     }
 }
 
+// An assignment, and then the rest.
 fn assigned<'p>(dest: &'p Dest, mut rest: PathNames<'p>) -> Result<PathNames<'p>, AllocError>
     ensures { IfOk result (λ names.
         IsFound names (λ x. joined (found (is_set dest.entry.now x) true) (sets_at rest.entry x))) }
@@ -40,8 +43,8 @@ fn assigned<'p>(dest: &'p Dest, mut rest: PathNames<'p>) -> Result<PathNames<'p>
     Ok(rest)
 }
 
-// Each operation goes over the first set of names alone, so that its time doesn't grow with what
-// stands behind.
+// One statement, and then the rest. Each operation goes over the names of the statement alone, so
+// that its time doesn't grow with what stands behind it.
 fn followed<'p>(first: PathNames<'p>, mut rest: PathNames<'p>) -> Result<PathNames<'p>, AllocError>
     ensures { IfOk result (λ names.
         IsFound names (λ x. joined (sets_at first.entry x) (sets_at rest.entry x))) }
