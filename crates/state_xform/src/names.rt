@@ -59,7 +59,9 @@ impl<'p> NameSet<'p> {
     pub(crate) fn add(&mut self, name: &'p Name) -> Result<(), AllocError>
         ensures { OnOk result ((x : Bytes) → spec.has self.new x ≡ (bytes_eq x name.entry.now || spec.has self.old x)) }
     {
-        self.listed.insert(name)?;
+        if !self.all {
+            self.listed.insert(name)?;
+        }
         Ok(())
     }
 
@@ -67,7 +69,7 @@ impl<'p> NameSet<'p> {
     pub(crate) fn add_all(&mut self, other: &NameSet<'p>) -> Result<(), AllocError>
         ensures { OnOk result (spec.IsUnion other.now self.old self.new) }
     {
-        if other.all {
+        if self.all || other.all {
             self.all = true;
             return Ok(());
         }
@@ -83,6 +85,9 @@ impl<'p> NameSet<'p> {
     {
         if self.all {
             return other;
+        }
+        if other.all {
+            return self;
         }
         let mut listed = self.listed;
         listed.retain(|name| other.contains(name));
