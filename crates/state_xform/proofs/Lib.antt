@@ -1,1 +1,3 @@
+mod AllLaws
+mod NameLaws
 mod PathLaws

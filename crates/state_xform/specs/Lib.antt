@@ -1,2 +1,4 @@
+pub mod AllNames
+pub mod NameSets
 pub mod Paths
 pub mod Walk

@@ -1,4 +1,4 @@
-use crate::{always_sets, sets_element};
+use crate::{NameSet, always_set_names, always_sets, element_names, sets_element};
 use c_lang::{Fail, Name, Program, Unit};
 use c_lexer::lex;
 use c_parser::parse;
@@ -22,6 +22,24 @@ fn found(alloc: Global, body: &str) -> Result<String, AllocError> {
                 said.push(if always_sets(&name, body) { '1' } else { '0' })?;
                 said.push(if sets_element(&name, body) { '1' } else { '0' })?;
             }
+        }
+        Err(_) => said.push('?')?,
+    }
+    Ok(said)
+}
+
+// The same by the walks that find all names.
+fn found_at_once(alloc: Global, body: &str) -> Result<String, AllocError> {
+    let name = Name::new(alloc, b"dsu_new_v")?;
+    let mut said = String::new(alloc);
+    match transformer(alloc, body) {
+        Ok(program) => {
+            for func in program.funcs.as_slice() {
+                let always = always_set_names(alloc, func.body.as_slice())?;
+                said.push(if always.contains(&name) { '1' } else { '0' })?;
+            }
+            let elements = element_names(alloc, program.funcs.as_slice())?;
+            said.push(if elements.contains(&name) { '1' } else { '0' })?;
         }
         Err(_) => said.push('?')?,
     }
@@ -53,6 +71,82 @@ fn paths_of_bodies(rt: HostRuntime) -> Result<(), AllocError> {
     ];
     for (body, want) in cases {
         assert_eq!(rt; found(rt.alloc(), body)?.as_str(), want);
+        assert_eq!(rt; found_at_once(rt.alloc(), body)?.as_str(), want);
     }
+    Ok(())
+}
+
+// Which of the names a to d are in the set.
+fn letters(alloc: Global, names: &NameSet<'_>) -> Result<String, AllocError> {
+    let mut said = String::new(alloc);
+    for letter in ["a", "b", "c", "d"] {
+        let name = Name::new(alloc, letter.as_bytes())?;
+        if names.contains(&name) {
+            said.push_str(letter)?;
+        }
+    }
+    Ok(said)
+}
+
+fn always_set_letters(alloc: Global, body: &str) -> Result<String, AllocError> {
+    let mut said = String::new(alloc);
+    match transformer(alloc, body) {
+        Ok(program) => {
+            for func in program.funcs.as_slice() {
+                let always = always_set_names(alloc, func.body.as_slice())?;
+                let letters = letters(alloc, &always)?;
+                said.push_str(letters.as_str())?;
+            }
+        }
+        Err(_) => said.push('?')?,
+    }
+    Ok(said)
+}
+
+#[test]
+fn several_names_at_once(rt: HostRuntime) -> Result<(), AllocError> {
+    let cases = [
+        ("a = 1; b = a; c = 1; d = 1;", "abcd"),
+        (
+            "if (n) { a = 1; b = 1; } else { b = 2; c = 2; } d = 1;",
+            "bd",
+        ),
+        ("a = 1; if (n) { b = 1; return; } b = 2; c = 1;", "ab"),
+        (
+            "if (n) { a = 1; return; } else { a = 2; b = 1; return; } c = 1;",
+            "a",
+        ),
+        (
+            "while (n) { a = 1; if (n) { b = 1; return; } } a = 1; b = 1; c = 1;",
+            "ab",
+        ),
+        ("while (n) { if (n) { break; } return; } a = 1;", ""),
+        (
+            "if (n) { while (n) { a = 1; } b = 1; } else { b = 1; a = 1; }",
+            "b",
+        ),
+    ];
+    for (body, want) in cases {
+        assert_eq!(rt; always_set_letters(rt.alloc(), body)?.as_str(), want);
+    }
+    Ok(())
+}
+
+fn element_letters(alloc: Global, text: &str) -> Result<String, AllocError> {
+    let Ok(tokens) = lex(alloc, Unit::Xform, text.as_bytes()) else {
+        return format!(in alloc; "no tokens");
+    };
+    let Ok(program) = parse(alloc, Unit::Xform, 64, &tokens) else {
+        return format!(in alloc; "no program");
+    };
+    let names = element_names(alloc, program.funcs.as_slice())?;
+    letters(alloc, &names)
+}
+
+#[test]
+fn elements_in_several_functions(rt: HostRuntime) -> Result<(), AllocError> {
+    let text =
+        "void f(void) { while (n) { a[n] = 1; } b = 1; } void g(void) { if (n) { c[0] = a[0]; } else { d[0] = 1; } }";
+    assert_eq!(rt; element_letters(rt.alloc(), text)?.as_str(), "acd");
     Ok(())
 }
