@@ -1,1 +1,3 @@
 mod PathLaws
+mod FunctionsTyped
+mod TransformerLaws

@@ -1,8 +1,17 @@
-//! What a state transformer sets.
+//! Which programs are state transformers of two versions. `check_xform` gives a typed transformer that
+//! sets what changed, or the first refusal.
 #![tactic(auto)]
 
 mod coverage;
+mod covering;
+mod functions;
+mod transformers;
+mod visible;
+mod xform;
 #[cfg(test)]
 mod tests;
+#[cfg(test)]
+mod xform_tests;
 
 pub use coverage::{always_sets, sets_element};
+pub use xform::{Xform, check_xform};
