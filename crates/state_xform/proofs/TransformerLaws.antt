@@ -7,6 +7,7 @@ use Rattle.c_lang.specs.Links.{part, is_shared_cell}
 use Rattle.c_lang.specs.Version as old_new
 use Rattle.c_lang.specs.Programs.{global_named, func_named, no_func}
 use Rattle.c_lang.specs.Trees.{Statements}
+use Rattle.c_lang.specs.declared.unit.Unit.TheVariants as unit
 use Rattle.c_lang.specs.declared.refusal.Refusal.{Refusal}
 use Rattle.c_lang.specs.declared.refusal.Fail.{Fail}
 use Rattle.c_lang.specs.declared.refusal.Fail.TheVariants as fail
@@ -18,7 +19,7 @@ use Rattle.c_types.specs.Names.{Entries, found, smaller}
 use Rattle.c_types.specs.Scopes.{names_version}
 use Rattle.c_types.specs.Checks.{at_place, first as or_then, Checked}
 use Rattle.c_types.specs.Functions.{refusal_of_func}
-use Rattle.c_types.specs.Programs.{with_func, with_funcs, wrong_global, refusal_of_protos, first_early}
+use Rattle.c_types.specs.Programs.{with_func, with_funcs, wrong_global, cell_limit, refusal_of_protos, first_early}
 use Rattle.c_types.proofs.Combined.{some_none, both_none, first_none, none_first, at_none, test_false, not_some, either_false}
 use Rattle.version_names.specs.Merged.{merged_name}
 use Rattle.version_names.specs.Parts.{part_at, part_of, is_changed_cell, IsLinked}
@@ -39,35 +40,34 @@ use Rattle.state_xform.proofs.FunctionsTyped.{protos_sound, protos_complete, fun
 
 no_globals : (early : List Refusal) (outside : Entries) (gs : List GlobalVar) → refusal_of_first early outside gs ≡ None → gs ≡ []
 no_globals early outside [] h = refl
-no_globals early outside (g ∷ gs) h = absurd (some_none 19 (both_none (Some 19) _ (at_none _ g.pos h)).0)
+no_globals early outside (g ∷ gs) h =
+    let alone = wrong_global early outside [] (cell_limit unit.Xform) g in
+    absurd (some_none 19 (both_none (Some 19) alone (at_none (smaller (Some 19) alone) g.pos h)).0)
 
 -- ---- functions
 
 module _ (parts : Parts) where
+  abbrev stands : Version → Sort2 → Bytes → Bool
+  stands v s x = is_some (parts v s x)
+
   nowhere : (x : Bytes) → in_version parts x ≡ false → (v : Version) (s : Sort2) → parts v s x ≡ None
   nowhere x h = by
     where
-      a : (is_some (parts version.Old sort.Cell x) ≡ false) × ((is_some (parts version.Old sort.Code x) || is_some (parts version.New sort.Cell x) || is_some (parts version.New sort.Code x)) ≡ false)
-      a = either_false _ _ h
-
-      b : (is_some (parts version.Old sort.Code x) ≡ false) × ((is_some (parts version.New sort.Cell x) || is_some (parts version.New sort.Code x)) ≡ false)
-      b = either_false _ _ a.1
-
-      c : (is_some (parts version.New sort.Cell x) ≡ false) × (is_some (parts version.New sort.Code x) ≡ false)
-      c = either_false _ _ b.1
+      old : ((stands version.Old sort.Cell x || stands version.Old sort.Code x) ≡ false) × (stands version.New sort.Cell x ≡ false)
+      old = either_false _ _ (either_false ((stands version.Old sort.Cell x || stands version.Old sort.Code x) || stands version.New sort.Cell x) (stands version.New sort.Code x) h).0
 
       by : (v : Version) (s : Sort2) → parts v s x ≡ None
-      by version.Old sort.Cell = not_some _ a.0
-      by version.Old sort.Code = not_some _ b.0
-      by version.New sort.Cell = not_some _ c.0
-      by version.New sort.Code = not_some _ c.1
+      by version.Old sort.Cell = not_some _ (either_false (stands version.Old sort.Cell x) (stands version.Old sort.Code x) old.0).0
+      by version.Old sort.Code = not_some _ (either_false (stands version.Old sort.Cell x) (stands version.Old sort.Code x) old.0).1
+      by version.New sort.Cell = not_some _ old.1
+      by version.New sort.Code = not_some _ (either_false ((stands version.Old sort.Cell x || stands version.Old sort.Code x) || stands version.New sort.Cell x) (stands version.New sort.Code x) h).1
 
   name_sound : (seen : Entries) (x : Bytes) → wrong_own_name parts seen x ≡ None → IsOwnName parts seen x
   name_sound seen x h =
-      let t = test_false (is_some (found seen x) || in_version parts x || names_version x) 7 h in
-      let p = either_false (is_some (found seen x)) (in_version parts x || names_version x) t in
-      let q = either_false (in_version parts x) (names_version x) p.1 in
-      record { new = not_some (found seen x) p.0; free = nowhere x q.0; plain = q.1 }
+      let t = test_false ((is_some (found seen x) || in_version parts x) || names_version x) 7 h in
+      let p = either_false (is_some (found seen x) || in_version parts x) (names_version x) t in
+      let q = either_false (is_some (found seen x)) (in_version parts x) p.0 in
+      record { new = not_some (found seen x) q.0; free = nowhere x q.1; plain = p.1 }
 
   name_complete : (seen : Entries) (x : Bytes) → IsOwnName parts seen x → wrong_own_name parts seen x ≡ None
   name_complete seen x h =
@@ -214,5 +214,14 @@ module _ (first second : Program) (links : Links) (linked : IsLinked first secon
   by_programs p (Err fail.NoMemory) h = tt
   by_programs p (Err (fail.Refused r)) h = (λ t. some_none r (sym h ∙ not_refused first second p t), h)
 
-  pub checked : (p : Program) (result : Result Program Fail) → ByParts (parts_in links) p result → IsChecked first second p result
-  checked p result h = by_programs p result (subst (λ parts. ByParts parts p result) same_parts h)
+  by_links : (p : Program) (result : Result Program Fail) → ByParts (parts_in links) p result → IsChecked first second p result
+  by_links p result h = by_programs p result (subst (λ parts. ByParts parts p result) same_parts h)
+
+-- the two programs are what references to them have
+pub checked : (a b first second : Program) (links : Links) → a ≡ first → b ≡ second → IsLinked first second links
+    → (p : Program) (result : Result Program Fail)
+    → Checked result (first_refusal (parts_in links) a b p) (resolved_transformer (parts_in links) a b p) → IsChecked first second p result
+checked a b first second links same other linked p result h =
+    by_links first second links linked p result
+    (subst (λ (y : Program). Checked result (first_refusal (parts_in links) first y p) (resolved_transformer (parts_in links) first y p)) other
+    (subst (λ (x : Program). Checked result (first_refusal (parts_in links) x b p) (resolved_transformer (parts_in links) x b p)) same h))

@@ -60,6 +60,8 @@ pub fn check_xform(
     requires { IsLinked first.now second.now links.now }
     ensures { IsChecked first.now second.now program result }
 {
-    let program = check_program(alloc, first.program(), second.program(), links, program)?;
-    Ok(Xform { program })
+    match check_program(alloc, first.program(), second.program(), links, program) {
+        Ok(program) => Ok(Xform { program }),
+        Err(fail) => Err(fail),
+    }
 }
