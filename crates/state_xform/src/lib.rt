@@ -5,11 +5,11 @@
 mod coverage;
 mod covering;
 mod functions;
+#[cfg(test)]
+mod tests;
 mod transformers;
 mod visible;
 mod xform;
-#[cfg(test)]
-mod tests;
 #[cfg(test)]
 mod xform_tests;
 

@@ -62,7 +62,12 @@ fn check_no_global(
 fn check_declarations(alloc: Global, outside: &Symbols, program: &Program) -> Result<(), Fail>
     ensures { Checked result (spec.refusal_of_declarations outside.now program.now) tt }
 {
-    check_no_global(alloc, program.early.as_slice(), outside, program.globals.as_slice())?;
+    check_no_global(
+        alloc,
+        program.early.as_slice(),
+        outside,
+        program.globals.as_slice(),
+    )?;
     check_protos(alloc, program.funcs.as_slice(), program.protos.as_slice())
 }
 

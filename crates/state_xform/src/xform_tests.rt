@@ -40,21 +40,23 @@ fn shown(alloc: Global, answer: Result<Xform, Fail>) -> Result<String, AllocErro
 }
 
 fn checked(alloc: Global, old: &str, new: &str, text: &str) -> Result<String, AllocError> {
-    match (
-        typed(alloc, Unit::Old, old),
-        typed(alloc, Unit::New, new),
-    ) {
+    match (typed(alloc, Unit::Old, old), typed(alloc, Unit::New, new)) {
         (Ok(old), Ok(new)) => shown(alloc, answer(alloc, &old, &new, text)),
         _ => format!(in alloc; "untyped"),
     }
 }
 
-const OLD: &str = "int g = 1; int v[2]; int only; int twice(int x) { return x + x; } int put(int a) { return a; }";
-const NEW: &str = "int g; int v; int (*p)(int); int twice(int x) { return 3 * x; } int put(int a, int b) { return b; }";
+const OLD: &str =
+    "int g = 1; int v[2]; int only; int twice(int x) { return x + x; } int put(int a) { return a; }";
+
+const NEW: &str =
+    "int g; int v; int (*p)(int); int twice(int x) { return 3 * x; } int put(int a, int b) { return b; }";
 
 // A transformer with these statements, and these declarations behind it.
 fn body(alloc: Global, statements: &str, others: &str) -> Result<String, AllocError> {
-    let text = format!(in alloc; "void dsu_transform(void) {{ dsu_new_v = 1; {statements} }}\n{others}")?;
+    let text = format!(in alloc;
+        "void dsu_transform(void) {{ dsu_new_v = 1; {statements} }}\n{others}"
+    )?;
     checked(alloc, OLD, NEW, text.as_str())
 }
 
@@ -66,8 +68,13 @@ fn a_changed_number_is_set_on_every_path(rt: HostRuntime) -> Result<(), AllocErr
         ("} else { return; }", "18 1 v"),
     ];
     for (end, want) in cases {
-        let text = format!(in rt.alloc(); "void dsu_transform(void) {{\nif (dsu_old_v[0] > 0) {{\ndsu_new_v = dsu_old_v[0];\n{end}\n}}")?;
-        assert_eq!(rt; checked(rt.alloc(), "int v[2];", "int v;", text.as_str())?.as_str(), want);
+        let text = format!(in rt.alloc();
+            "void dsu_transform(void) {{\nif (dsu_old_v[0] > 0) {{\ndsu_new_v = dsu_old_v[0];\n{end}\n}}"
+        )?;
+        assert_eq!(rt;
+            checked(rt.alloc(), "int v[2];", "int v;", text.as_str())?.as_str(),
+            want
+        );
     }
     Ok(())
 }
@@ -89,7 +96,10 @@ fn the_first_global_that_is_not_set(rt: HostRuntime) -> Result<(), AllocError> {
     ];
     for (statements, others, want) in cases {
         let text = format!(in rt.alloc(); "void dsu_transform(void) {{ {statements} }} {others}")?;
-        assert_eq!(rt; checked(rt.alloc(), old, new, text.as_str())?.as_str(), want);
+        assert_eq!(rt;
+            checked(rt.alloc(), old, new, text.as_str())?.as_str(),
+            want
+        );
     }
     Ok(())
 }

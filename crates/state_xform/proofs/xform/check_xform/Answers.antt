@@ -6,7 +6,7 @@ use Rattle.state_xform.proofs.xform.check_xform.Goals as goal
 pub invariant_of-result : goal.invariant_of-result
 invariant_of-result c =
     let is : IsChecked c.args.first.now c.args.second.now c.args.program (Ok c.in-Ok.program)
-            = checked _ _ _ _ c.args.links.now c.program.ensures.program c.program-2.ensures.program c.requires c.args.program (Ok c.in-Ok.program) c.in-Ok.ensures in
+    = checked _ _ _ _ c.args.links.now c.program.ensures.program c.program-2.ensures.program c.requires c.args.program (Ok c.in-Ok.program) c.in-Ok.ensures in
     record {
       old = c.args.first.now;
       second = c.args.second.now;
