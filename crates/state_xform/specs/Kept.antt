@@ -13,10 +13,14 @@ IsChecked first second p (Ok x) = IsTransformer first second p × (x ≡ resolve
 IsChecked first second p (Err NoMemory) = ⊤
 IsChecked first second p (Err (Refused r)) = (IsTransformer first second p → ⊥) × (first_refusal (part_of first second) first second p ≡ Some r)
 
--- it is the resolved form of a transformer of some two programs
-pub record IsKept (kept : Program) : Type 0 where
-  pub old : Program
-  pub second : Program
+-- it is the resolved form of a transformer of these two programs
+pub record IsTransformerOf (first second kept : Program) : Type 0 where
   pub source : Program
-  pub transformer : IsTransformer old second source
-  pub resolved : kept ≡ resolved_transformer (part_of old second) old second source
+  pub transformer : IsTransformer first second source
+  pub resolved : kept ≡ resolved_transformer (part_of first second) first second source
+
+-- and of some two programs
+pub record IsKept (kept : Program) : Type 0 where
+  pub first : Program
+  pub second : Program
+  pub made : IsTransformerOf first second kept

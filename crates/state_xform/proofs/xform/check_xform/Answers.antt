@@ -8,11 +8,9 @@ invariant_of-result c =
     let is : IsChecked c.args.first.now c.args.second.now c.args.program (Ok c.in-Ok.program)
     = checked _ _ _ _ c.args.links.now c.program.ensures.program c.program-2.ensures.program c.requires c.args.program (Ok c.in-Ok.program) c.in-Ok.ensures in
     record {
-      old = c.args.first.now;
+      first = c.args.first.now;
       second = c.args.second.now;
-      source = c.args.program;
-      transformer = is.0;
-      resolved = is.1;
+      made = record { source = c.args.program; transformer = is.0; resolved = is.1 };
     }
 
 pub returns-in-Ok : goal.returns-in-Ok
