@@ -30,10 +30,10 @@ fn refusal(alloc: Global, why: &Refusal) -> Result<String, AllocError> {
     format!(in alloc; "{} {} {name}", why.number, why.pos.line)
 }
 
-// The refusal's number, line and name.
+// How many functions a transformer keeps, or the refusal's number, line and name.
 fn shown(alloc: Global, answer: Result<Xform, Fail>) -> Result<String, AllocError> {
     match answer {
-        Ok(_) => format!(in alloc; "ok"),
+        Ok(xform) => format!(in alloc; "ok {}", xform.program().funcs.as_slice().len()),
         Err(Fail::Refused(why)) => refusal(alloc, &why),
         Err(Fail::NoMemory) => Err(AllocError),
     }
@@ -64,7 +64,7 @@ fn body(alloc: Global, statements: &str, others: &str) -> Result<String, AllocEr
 fn a_changed_number_is_set_on_every_path(rt: HostRuntime) -> Result<(), AllocError> {
     let cases = [
         ("}", "18 1 v"),
-        ("} else { dsu_new_v = 0; }", "ok"),
+        ("} else { dsu_new_v = 0; }", "ok 1"),
         ("} else { return; }", "18 1 v"),
     ];
     for (end, want) in cases {
@@ -84,18 +84,20 @@ fn the_first_global_that_is_not_set(rt: HostRuntime) -> Result<(), AllocError> {
     let old = "int a; int (*q)(int); int b[2];";
     let new = "int (*q)(int, int); int b[3]; int a[2];";
     let cases = [
-        ("", "", "18 1 q"),
-        ("set();", "void set(void) { dsu_new_q = 0; }", "18 1 q"),
-        ("dsu_new_q = 0;", "", "18 1 b"),
-        ("dsu_new_q = 0; dsu_new_b[0] = 1;", "", "18 1 a"),
+        ("", "", "18 2 q"),
+        ("set();", "void set(void) { dsu_new_q = 0; }", "18 2 q"),
+        ("dsu_new_q = 0;", "", "18 2 b"),
+        ("dsu_new_q = 0; dsu_new_b[0] = 1;", "", "18 2 a"),
         (
             "dsu_new_q = 0; dsu_new_b[0] = 1;",
             "void set(void) { if (0) { dsu_new_a[1] = dsu_old_a; } }",
-            "ok",
+            "ok 2",
         ),
     ];
     for (statements, others, want) in cases {
-        let text = format!(in rt.alloc(); "void dsu_transform(void) {{ {statements} }} {others}")?;
+        let text = format!(in rt.alloc();
+            "\nvoid dsu_transform(void) {{ {statements} }} {others}"
+        )?;
         assert_eq!(rt;
             checked(rt.alloc(), old, new, text.as_str())?.as_str(),
             want
@@ -107,11 +109,11 @@ fn the_first_global_that_is_not_set(rt: HostRuntime) -> Result<(), AllocError> {
 #[test]
 fn what_a_transformer_may_name(rt: HostRuntime) -> Result<(), AllocError> {
     let cases = [
-        ("g = g + dsu_old_only;", "ok"),
-        ("g = dsu_old_v[1]; assert(g == dsu_new_v);", "ok"),
-        ("dsu_new_p = twice;", "ok"),
-        ("dsu_new_p = dsu_old_put;", "ok"),
-        ("int x = half(g); half(x); dsu_transform();", "ok"),
+        ("g = g + dsu_old_only;", "ok 2"),
+        ("g = dsu_old_v[1]; assert(g == dsu_new_v);", "ok 2"),
+        ("dsu_new_p = twice;", "ok 2"),
+        ("dsu_new_p = dsu_old_put;", "ok 2"),
+        ("int x = half(g); half(x); dsu_transform();", "ok 2"),
         ("dsu_new_p = dsu_new_put;", "10 1 -"),
         ("dsu_new_p = half;", "15 1 -"),
         ("g = dsu_old_g;", "9 1 -"),
@@ -157,7 +159,7 @@ fn what_a_transformer_may_do(rt: HostRuntime) -> Result<(), AllocError> {
 #[test]
 fn what_a_transformer_may_declare(rt: HostRuntime) -> Result<(), AllocError> {
     let cases = [
-        ("int half(int); int half(int x) { return x; }", "ok"),
+        ("int half(int); int half(int x) { return x; }", "ok 2"),
         ("int half(int);", "9 2 -"),
         ("void half(int); int half(int x) { return x; }", "10 2 -"),
         ("int twice(int x) { return x; }", "7 2 -"),
