@@ -15,7 +15,7 @@ use Rattle.c_types.specs.declared.scope.Scope.{Scope}
 use Rattle.c_types.specs.Bodies.{body_of}
 use Rattle.c_types.specs.Names.{Entries, found, smaller}
 use Rattle.c_types.specs.Scopes.{wrong_fresh}
-use Rattle.c_types.specs.Checks.{at_place, first}
+use Rattle.c_types.specs.Checks.{at_place}
 use Rattle.c_types.specs.Endings.{can_end}
 use Rattle.c_types.specs.Statements.{block_in, entered, refusal_in}
 use Rattle.c_types.specs.Functions.{kinds_of, is_wide, any_wide, wrong_params_count, scope_of, with_param, params_block, wrong_params, is_main, wrong_end, wrong_head, body_scope, refusal_of_func}

@@ -1,12 +1,11 @@
 -- A program is a transformer exactly where it has no refusal.
-use Rattle.std.proofs.Common.{◌≡◌, ℕ, Bool, true, false, not, ◌&&◌, ◌||◌, cond, List, [], ◌∷◌, Option, Some, None, is_some, refl, sym, ap, ap₂, ◌∙◌, subst}
+use Rattle.std.proofs.Common.{◌≡◌, Bool, true, false, not, ◌&&◌, ◌||◌, cond, List, [], ◌∷◌, Option, Some, None, is_some, refl, sym, ◌∙◌, subst}
 use Rattle.std.specs.Prelude.{if◌then◌else◌, unwrap_or, Result, Ok, Err}
 use Rattle.std.specs.List.{list_all, filter}
 use Rattle.c_lang.specs.Names.{Bytes}
 use Rattle.c_lang.specs.Links.{part, is_shared_cell}
 use Rattle.c_lang.specs.Version as old_new
 use Rattle.c_lang.specs.Programs.{global_named, func_named, no_func}
-use Rattle.c_lang.specs.Trees.{Statements}
 use Rattle.c_lang.specs.declared.unit.Unit.TheVariants as unit
 use Rattle.c_lang.specs.declared.refusal.Refusal.{Refusal}
 use Rattle.c_lang.specs.declared.refusal.Fail.{Fail}
@@ -17,7 +16,7 @@ use Rattle.c_lang.specs.declared.program.Program.{Program}
 use Rattle.c_types.specs.Bodies.{body_of}
 use Rattle.c_types.specs.Names.{Entries, found, smaller}
 use Rattle.c_types.specs.Scopes.{names_version}
-use Rattle.c_types.specs.Checks.{at_place, first as or_then, Checked}
+use Rattle.c_types.specs.Checks.{first as or_then, Checked}
 use Rattle.c_types.specs.Functions.{refusal_of_func}
 use Rattle.c_types.specs.Programs.{with_func, with_funcs, wrong_global, cell_limit, refusal_of_protos, first_early}
 use Rattle.c_types.proofs.Combined.{some_none, both_none, first_none, none_first, at_none, test_false, not_some, either_false}
@@ -27,11 +26,10 @@ use Rattle.version_names.specs.declared.links.Links.{Links}
 use Rattle.version_names.specs.declared.part.Origin.TheVariants as origin
 use Rattle.version_names.specs.declared.part.Version.{Version}
 use Rattle.version_names.specs.declared.part.Version.TheVariants as version
-use Rattle.version_names.specs.declared.part.Part.{Part}
 use Rattle.version_names.specs.declared.part.Sort2.{Sort2}
 use Rattle.version_names.specs.declared.part.Sort2.TheVariants as sort
-use Rattle.state_xform.specs.Refusals.{refusal_of_first, in_version, wrong_own_name, is_old, is_new, refusal_of_own, is_changed, not_covered, is_open, refusal_of_coverage, refusal_of_started, refusal_of_whole, no_start, refusal_of_declarations, first_refusal, resolved_transformer}
-use Rattle.state_xform.specs.Transformers.{IsOwnName, AreOwnFuncs, start_name, is_start, is_covered, changed_globals, Covers, IsTransformer}
+use Rattle.state_xform.specs.Refusals.{refusal_of_first, in_version, wrong_own_name, is_old, is_new, refusal_of_own, is_changed, not_covered, refusal_of_coverage, refusal_of_started, refusal_of_whole, no_start, refusal_of_declarations, first_refusal, resolved_transformer}
+use Rattle.state_xform.specs.Transformers.{IsOwnName, AreOwnFuncs, start_name, is_start, is_covered, changed_globals, IsTransformer}
 use Rattle.state_xform.specs.Kept.{IsChecked}
 use Rattle.state_xform.specs.Visible.{Parts, parts_in, visible}
 use Rattle.state_xform.proofs.FunctionsTyped.{protos_sound, protos_complete, func_sound, func_complete, early_sound}

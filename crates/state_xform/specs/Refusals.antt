@@ -20,7 +20,7 @@ use Rattle.version_names.specs.Merged.{merged_name}
 use Rattle.version_names.specs.declared.part.Origin.TheVariants as origin
 use Rattle.version_names.specs.declared.part.Version.TheVariants as version
 use Rattle.version_names.specs.declared.part.Part.{Part}
-use Rattle.version_names.specs.declared.part.Part.TheVariants.{Both, Old, New}
+use Rattle.version_names.specs.declared.part.Part.TheVariants.{Old, New}
 use Rattle.version_names.specs.declared.part.Sort2.TheVariants as sort
 use Rattle.state_xform.specs.Transformers.{start_name, is_start, is_covered}
 use Rattle.state_xform.specs.Visible.{Parts, visible}
