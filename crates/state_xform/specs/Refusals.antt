@@ -66,14 +66,14 @@ is_changed parts x = is_old (parts version.Old sort.Cell x) && is_new (parts ver
 abbrev pub not_covered : Pos → Bytes → Refusal
 not_covered p x = record { number = 18; pos = p; name = Some x }
 
-abbrev pub is_open : Parts → List Func → Statements → GlobalVar → Bool
-is_open parts fs body g = is_changed parts g.name && not (is_covered fs body (merged_name origin.New g.name) g.shape)
+abbrev pub is_uncovered : Parts → List Func → Statements → GlobalVar → Bool
+is_uncovered parts fs body g = is_changed parts g.name && not (is_covered fs body (merged_name origin.New g.name) g.shape)
 
 -- the first changed global of these that isn't covered
 abbrev pub refusal_of_coverage : Parts → List Func → Func → List GlobalVar → Option Refusal
 refusal_of_coverage parts fs start [] = None
 refusal_of_coverage parts fs start (g ∷ gs) =
-    if is_open parts fs (body_of start.body) g then Some (not_covered start.pos g.name) else refusal_of_coverage parts fs start gs
+    if is_uncovered parts fs (body_of start.body) g then Some (not_covered start.pos g.name) else refusal_of_coverage parts fs start gs
 
 -- ---- the whole unit
 

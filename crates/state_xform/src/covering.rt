@@ -74,14 +74,14 @@ fn is_changed(links: &Links, name: &Name) -> bool
         && is_new(links.of(Version::New, Sort2::Cell, name))
 }
 
-fn is_open(
+fn is_uncovered(
     alloc: Global,
     links: &Links,
     funcs: &[Func],
     body: &[Stmt],
     g: &GlobalVar,
 ) -> Result<bool, AllocError>
-    ensures { IfOk result (λ missing. missing ≡ spec.is_open (parts_in links.now) funcs.now (body_of body.now) g.now) }
+    ensures { IfOk result (λ missing. missing ≡ spec.is_uncovered (parts_in links.now) funcs.now (body_of body.now) g.now) }
 {
     if is_changed(links, &g.name) {
         Ok(!is_covered(alloc, funcs, body, g)?)
@@ -113,7 +113,7 @@ pub fn check_coverage(
     ensures { Checked result (spec.refusal_of_coverage (parts_in links.now) funcs.now start.now globals.now) tt }
 {
     for g in globals {
-        if is_open(alloc, links, funcs, start.body.as_slice(), g)? {
+        if is_uncovered(alloc, links, funcs, start.body.as_slice(), g)? {
             return Err(Fail::Refused(not_covered(alloc, start, g)?));
         }
     }
