@@ -6,10 +6,12 @@ use Rattle.c_lang.specs.Names.{Bytes}
 use Rattle.c_lang.specs.Trees.{statement_of, statements}
 use Rattle.c_lang.specs.declared.program.Func.{Func}
 use Rattle.c_lang.specs.declared.stmt.Stmt.{Stmt}
-use Rattle.state_xform.specs.AllNames.{IsFound, sets_at, some_sets_element}
+use Rattle.state_xform.specs.AllNames.{IsFound, sets_at}
+use Rattle.state_xform.specs.Elements.{sets_element_in}
+use Rattle.state_xform.specs.Transformers.{is_filled}
 use Rattle.state_xform.specs.NameSets.{Names, has, IsCommon}
 use Rattle.state_xform.specs.Paths.{always_set}
-use Rattle.state_xform.specs.Walk.{joined, walk, walk_all, sets_element_in}
+use Rattle.state_xform.specs.Walk.{joined, walk, walk_all}
 use Rattle.state_xform.specs.declared.always.PathNames.{PathNames}
 use Rattle.state_xform.proofs.NameLaws.{drop-next, one_added}
 use Rattle.state_xform.proofs.PathLaws.{always-set}
@@ -47,9 +49,9 @@ both_added first second old mid new before is x = is x ∙ ap (λ b. first x || 
 pub elements-more : (funcs : List Func) (i : ℕ) (f : Func) (body : List Stmt) (whole old new : Bytes → Bool)
     → i < length funcs → f ≡ get_or funcs i f → body ≡ f.body
     → ((x : Bytes) → new x ≡ (sets_element_in x (statements (map statement_of body)) || old x))
-    → ((x : Bytes) → (some_sets_element x (drop i funcs) || old x) ≡ whole x)
-    → (x : Bytes) → (some_sets_element x (drop (i + 1) funcs) || new x) ≡ whole x
+    → ((x : Bytes) → (is_filled (drop i funcs) x || old x) ≡ whole x)
+    → (x : Bytes) → (is_filled (drop (i + 1) funcs) x || new x) ≡ whole x
 elements-more funcs i f body whole old new within is same added kept x =
-    one_added (sets_element_in x (statements (map statement_of f.body))) (some_sets_element x (drop (i + 1) funcs)) (old x) (new x) (whole x)
+    one_added (sets_element_in x (statements (map statement_of f.body))) (is_filled (drop (i + 1) funcs) x) (old x) (new x) (whole x)
     (added x ∙ ap (λ ss. sets_element_in x (statements (map statement_of ss)) || old x) same)
-    (ap (λ fs. some_sets_element x fs || old x) (sym (drop-next funcs i f within is)) ∙ kept x)
+    (ap (λ fs. is_filled fs x || old x) (sym (drop-next funcs i f within is)) ∙ kept x)

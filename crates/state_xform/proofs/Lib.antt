@@ -1,3 +1,5 @@
 mod AllLaws
 mod NameLaws
 mod PathLaws
+mod FunctionsTyped
+mod TransformerLaws

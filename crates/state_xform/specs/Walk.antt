@@ -1,10 +1,14 @@
 -- What a walk over statements finds of a name, without looking at each path.
 use Rattle.std.specs.Prelude.{Bool, true, false, ◌&&◌, ◌||◌, bytes_eq}
 use Rattle.c_lang.specs.Names.{Bytes}
-use Rattle.c_lang.specs.Trees.{Statement, Statements, set, set_element, if_else, while_loop, break_loop, return_with, none, more}
+use Rattle.c_lang.specs.Trees.{Statement, Statements, set, if_else, while_loop, break_loop, return_with, none, more}
 use Rattle.c_lang.specs.declared.stmt.Dest.{Dest}
 use Rattle.c_lang.specs.declared.stmt.Dest.TheVariants.{Nowhere, Into, Fresh}
-use Rattle.state_xform.specs.declared.coverage.Sets.{Sets}
+
+-- whether each path that goes on sets the name, and each that returns
+pub record Sets : Type 0 where
+  pub behind : Bool
+  pub returned : Bool
 
 abbrev pub found : Bool → Bool → Sets
 found behind returned = record { behind = behind; returned = returned }
@@ -34,15 +38,3 @@ abbrev mutual
   pub walk_all : Bytes → Statements → Sets
   walk_all x none = found false true
   walk_all x (more s ss) = joined (walk x s) (walk_all x ss)
-
--- some statement sets an element of this array
-abbrev mutual
-  pub sets_element : Bytes → Statement → Bool
-  sets_element x (set_element p a i e) = bytes_eq x a
-  sets_element x (if_else p e a b) = sets_element_in x a || sets_element_in x b
-  sets_element x (while_loop p e a) = sets_element_in x a
-  sets_element x s = false
-
-  pub sets_element_in : Bytes → Statements → Bool
-  sets_element_in x none = false
-  sets_element_in x (more s ss) = sets_element x s || sets_element_in x ss

@@ -3,9 +3,9 @@
 ghost use Rattle.std.specs.Prelude.{◌≡◌, ◌||◌, IfOk, OnOk, map};
 ghost use Rattle.c_lang.specs.Names.{Bytes};
 ghost use Rattle.c_lang.specs.Trees.{statement_of, statements};
-ghost use Rattle.state_xform.specs.AllNames.{some_sets_element};
 ghost use Rattle.state_xform.specs.NameSets.{has};
-ghost use Rattle.state_xform.specs.Walk as spec;
+ghost use Rattle.state_xform.specs.Elements as spec;
+ghost use Rattle.state_xform.specs.Transformers.{is_filled};
 
 use crate::names::NameSet;
 use c_lang::{Func, Stmt};
@@ -41,7 +41,7 @@ fn add_in<'p>(names: &mut NameSet<'p>, stmts: &'p [Stmt]) -> Result<(), AllocErr
 /// The names of the arrays of which some function sets an element. The only error is want of memory.
 /// The time is linear in the functions' size.
 pub fn element_names<'p>(alloc: Global, funcs: &'p [Func]) -> Result<NameSet<'p>, AllocError>
-    ensures { IfOk result (λ names. (x : Bytes) → has names x ≡ some_sets_element x funcs.entry.now) }
+    ensures { IfOk result (λ names. (x : Bytes) → has names x ≡ is_filled funcs.entry.now x) }
 {
     let mut names = NameSet::empty(alloc);
     for func in funcs {

@@ -1,14 +1,18 @@
-//! What a state transformer sets.
+//! Which programs are state transformers of two versions. `check_xform` gives a typed transformer that
+//! sets what changed, or the first refusal.
 #![tactic(auto)]
 
 mod always;
-mod coverage;
 mod elements;
 mod names;
+mod covering;
+mod functions;
 #[cfg(test)]
 mod tests;
+mod transformers;
+mod visible;
+mod xform;
+#[cfg(test)]
+mod xform_tests;
 
-pub use always::always_set_names;
-pub use coverage::{always_sets, sets_element};
-pub use elements::element_names;
-pub use names::NameSet;
+pub use xform::{Xform, check_xform};

@@ -1,4 +1,6 @@
-use crate::{NameSet, always_set_names, always_sets, element_names, sets_element};
+use crate::always::always_set_names;
+use crate::elements::element_names;
+use crate::names::NameSet;
 use c_lang::{Fail, Name, Program, Unit};
 use c_lexer::lex;
 use c_parser::parse;
@@ -13,23 +15,6 @@ fn transformer(alloc: Global, body: &str) -> Result<Program, Fail> {
 // Whether the body always sets `dsu_new_v`, and whether it sets an element of it; `?` where it has
 // no program.
 fn found(alloc: Global, body: &str) -> Result<String, AllocError> {
-    let name = Name::new(alloc, b"dsu_new_v")?;
-    let mut said = String::new(alloc);
-    match transformer(alloc, body) {
-        Ok(program) => {
-            for func in program.funcs.as_slice() {
-                let body = func.body.as_slice();
-                said.push(if always_sets(&name, body) { '1' } else { '0' })?;
-                said.push(if sets_element(&name, body) { '1' } else { '0' })?;
-            }
-        }
-        Err(_) => said.push('?')?,
-    }
-    Ok(said)
-}
-
-// The same by the walks that find all names.
-fn found_at_once(alloc: Global, body: &str) -> Result<String, AllocError> {
     let name = Name::new(alloc, b"dsu_new_v")?;
     let mut said = String::new(alloc);
     match transformer(alloc, body) {
@@ -71,7 +56,6 @@ fn paths_of_bodies(rt: HostRuntime) -> Result<(), AllocError> {
     ];
     for (body, want) in cases {
         assert_eq!(rt; found(rt.alloc(), body)?.as_str(), want);
-        assert_eq!(rt; found_at_once(rt.alloc(), body)?.as_str(), want);
     }
     Ok(())
 }

@@ -1,0 +1,83 @@
+//! The functions of a transformer.
+
+ghost use Rattle.std.specs.Prelude.{◌≡◌, true, []};
+ghost use Rattle.c_types.specs.Checks.{Checked};
+ghost use Rattle.c_types.specs.Programs.{resolved_funcs};
+ghost use Rattle.c_types.specs.Scopes as scopes;
+ghost use Rattle.state_xform.specs.Refusals as spec;
+ghost use Rattle.state_xform.specs.Visible.{parts_in};
+
+use c_lang::{Fail, Func, Name};
+use c_types::declarations::add_func;
+use c_types::functions::check_func;
+use c_types::{Scope, Symbols};
+use sqlite_items::Items;
+use std::alloc::Global;
+use version_names::{Links, Sort2, Version};
+
+#[tactic(auto, unfolding(c_types::specs::Scopes::names_version))]
+fn names_version(name: &Name) -> bool
+    ensures { result ≡ scopes.names_version name.now }
+{
+    let name = name.as_bytes();
+    name.starts_with(b"dsu_old_") || name.starts_with(b"dsu_new_")
+}
+
+fn in_version(links: &Links, name: &Name) -> bool
+    ensures { result ≡ spec.in_version (parts_in links.now) name.now }
+{
+    links.of(Version::Old, Sort2::Cell, name).is_some()
+        || links.of(Version::Old, Sort2::Code, name).is_some()
+        || links.of(Version::New, Sort2::Cell, name).is_some()
+        || links.of(Version::New, Sort2::Code, name).is_some()
+}
+
+fn wrong_own_name(links: &Links, seen: &Symbols, name: &Name) -> Option<u8>
+    ensures { result ≡ spec.wrong_own_name (parts_in links.now) seen.now name.now }
+{
+    if seen.find(name).is_some() || in_version(links, name) || names_version(name) {
+        Some(7)
+    } else {
+        None
+    }
+}
+
+fn check_each(
+    alloc: Global,
+    scope: &mut Scope,
+    links: &Links,
+    seen: &mut Symbols,
+    funcs: &[Func],
+) -> Result<Items<Func>, Fail>
+    requires { scope.old.xform ≡ true }
+    ensures { Checked result (spec.refusal_of_own (parts_in links.now) scope.old.outside seen.old funcs.now) (resolved_funcs scope.old.outside true funcs.now) }
+{
+    let mut all = Items::new(alloc);
+    for f in funcs {
+        let again = wrong_own_name(links, seen, &f.name);
+        all.push(check_func(alloc, scope, again, f)?)?;
+        add_func(alloc, seen, f)?;
+    }
+    Ok(all)
+}
+
+/// The functions in their resolved form, or the first refusal. `outside` is what they see.
+pub fn check_funcs(
+    alloc: Global,
+    outside: Symbols,
+    links: &Links,
+    funcs: &[Func],
+) -> Result<Items<Func>, Fail>
+    ensures { Checked result (spec.refusal_of_own (parts_in links.now) outside [] funcs.now) (resolved_funcs outside true funcs.now) }
+{
+    let mut scope = Scope {
+        outside,
+        locals: Symbols::new(alloc),
+        told: Symbols::new(alloc),
+        ahead: Symbols::new(alloc),
+        gives: false,
+        xform: true,
+    };
+    let mut seen = Symbols::new(alloc);
+    check_each(alloc, &mut scope, links, &mut seen, funcs)
+}

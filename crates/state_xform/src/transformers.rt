@@ -1,0 +1,210 @@
+//! Whole transformers: globals, prototypes, functions, then what the unit as a whole must have.
+
+ghost use Rattle.std.specs.Prelude.{◌≡◌, IfOk, [], true, Some, bytes_eq};
+ghost use Rattle.std.specs.Option.{option_copied};
+ghost use Rattle.c_lang.specs.Programs.{func_named};
+ghost use Rattle.c_lang.specs.declared.unit.Unit.TheVariants.{Xform};
+ghost use Rattle.c_types.specs.Checks.{Checked};
+ghost use Rattle.c_types.specs.Programs as programs;
+ghost use Rattle.state_xform.specs.Refusals as spec;
+ghost use Rattle.state_xform.specs.Transformers as transformer;
+ghost use Rattle.state_xform.specs.Visible as seen;
+
+use crate::covering::check_coverage;
+use crate::functions::check_funcs;
+use crate::visible::visible;
+use c_lang::{Fail, Func, GlobalVar, Kind, Name, Pos, Program, Refusal, Unit};
+use c_types::Symbols;
+use c_types::declarations::{cell_limit, check_globals, check_protos};
+use c_types::means::smaller;
+use c_types::simple::stop;
+use sqlite_items::Items;
+use std::alloc::{AllocError, Global};
+use std::slice;
+use version_names::Links;
+
+// The number that refuses the global, as the first one of a unit that may have globals.
+fn wrong_alone(
+    alloc: Global,
+    early: &[Refusal],
+    outside: &Symbols,
+    g: &GlobalVar,
+) -> Result<Option<u8>, AllocError>
+    ensures { IfOk result (λ number. number ≡ programs.wrong_global early.now outside.now [] (programs.cell_limit Xform) g.now) }
+{
+    let mut before = Symbols::new(alloc);
+    let room = cell_limit(Unit::Xform);
+    match check_globals(alloc, early, outside, &mut before, room, slice::from_ref(g)) {
+        Ok(()) => Ok(None),
+        Err(Fail::Refused(why)) => Ok(Some(why.number)),
+        Err(Fail::NoMemory) => Err(AllocError),
+    }
+}
+
+// Refuses the first global.
+fn check_no_global(
+    alloc: Global,
+    early: &[Refusal],
+    outside: &Symbols,
+    globals: &[GlobalVar],
+) -> Result<(), Fail>
+    ensures { Checked result (spec.refusal_of_first early.now outside.now globals.now) tt }
+{
+    match globals {
+        [] => Ok(()),
+        [g, _others @ ..] => {
+            let number = wrong_alone(alloc, early, outside, g)?;
+            stop(smaller(Some(19), number), g.pos)
+        }
+    }
+}
+
+fn check_declarations(alloc: Global, outside: &Symbols, program: &Program) -> Result<(), Fail>
+    ensures { Checked result (spec.refusal_of_declarations outside.now program.now) tt }
+{
+    check_no_global(
+        alloc,
+        program.early.as_slice(),
+        outside,
+        program.globals.as_slice(),
+    )?;
+    check_protos(alloc, program.funcs.as_slice(), program.protos.as_slice())
+}
+
+fn has_none(params: &[(Kind, Name)]) -> bool
+    ensures { result ≡ programs.is_empty params.now }
+{
+    match params {
+        [] => true,
+        [_p, _ps @ ..] => false,
+    }
+}
+
+#[tactic(auto, unfolding(crate::specs::Transformers::start_name))]
+fn is_start_name(name: &Name) -> bool
+    ensures { result ≡ bytes_eq name.now transformer.start_name }
+{
+    name.as_bytes() == b"dsu_transform".as_slice()
+}
+
+fn start_of(funcs: &[Func]) -> Option<&Func>
+    ensures { option_copied result ≡ func_named funcs.now transformer.start_name }
+{
+    for f in funcs {
+        if is_start_name(&f.name) {
+            return Some(f);
+        }
+    }
+    None
+}
+
+fn is_start(f: &Func) -> bool
+    ensures { result ≡ transformer.is_start (Some f.now) }
+{
+    !f.gives && has_none(f.params.as_slice())
+}
+
+fn no_start() -> Result<(), Fail>
+    ensures { Checked result (Some spec.no_start) tt }
+{
+    let line = Pos {
+        unit: Unit::Xform,
+        line: 1,
+    };
+    stop(Some(13), line)
+}
+
+fn copy_name(alloc: Global, name: &Option<Name>) -> Result<Option<Name>, AllocError>
+    ensures { IfOk result (λ copy. copy ≡ name.now) }
+{
+    match name {
+        None => Ok(None),
+        Some(name) => Ok(Some(name.copy(alloc)?)),
+    }
+}
+
+fn stop_early(alloc: Global, early: &[Refusal]) -> Result<(), Fail>
+    ensures { Checked result (programs.first_early early.now) tt }
+{
+    let [why, _others @ ..] = early else {
+        return Ok(());
+    };
+    let name = copy_name(alloc, &why.name)?;
+    Err(Fail::Refused(Refusal {
+        number: why.number,
+        pos: why.pos,
+        name,
+    }))
+}
+
+fn check_started(
+    alloc: Global,
+    links: &Links,
+    second: &Program,
+    program: &Program,
+    start: &Func,
+) -> Result<(), Fail>
+    ensures { Checked result (spec.refusal_of_started (seen.parts_in links.now) second.now program.now start.now) tt }
+{
+    if !is_start(start) {
+        return no_start();
+    }
+    stop_early(alloc, program.early.as_slice())?;
+    let funcs = program.funcs.as_slice();
+    check_coverage(alloc, links, funcs, start, second.globals.as_slice())
+}
+
+fn check_whole(
+    alloc: Global,
+    links: &Links,
+    second: &Program,
+    program: &Program,
+) -> Result<(), Fail>
+    ensures { Checked result (spec.refusal_of_whole (seen.parts_in links.now) second.now program.now (func_named program.now.funcs transformer.start_name)) tt }
+{
+    match start_of(program.funcs.as_slice()) {
+        Some(start) => check_started(alloc, links, second, program, start),
+        None => no_start(),
+    }
+}
+
+fn check_all(
+    alloc: Global,
+    first: &Program,
+    second: &Program,
+    links: &Links,
+    program: &Program,
+) -> Result<Items<Func>, Fail>
+    ensures { Checked result (spec.first_refusal (seen.parts_in links.now) first.now second.now program.now) (programs.resolved_funcs (seen.visible (seen.parts_in links.now) first.now second.now program.now) true program.now.funcs) }
+{
+    let outside = visible(alloc, first, second, links, program)?;
+    check_declarations(alloc, &outside, program)?;
+    let funcs = check_funcs(alloc, outside, links, program.funcs.as_slice())?;
+    check_whole(alloc, links, second, program)?;
+    Ok(funcs)
+}
+
+/// The program in its resolved form, or its first refusal as a transformer of the first program to
+/// the second one.
+pub fn check_program(
+    alloc: Global,
+    first: &Program,
+    second: &Program,
+    links: &Links,
+    program: Program,
+) -> Result<Program, Fail>
+    ensures { Checked result (spec.first_refusal (seen.parts_in links.now) first.now second.now program) (spec.resolved_transformer (seen.parts_in links.now) first.now second.now program) }
+{
+    let funcs = check_all(alloc, first, second, links, &program)?;
+    let Program {
+        globals,
+        protos,
+        ..
+    } = program;
+    Ok(Program {
+        globals,
+        protos,
+        funcs,
+        early: Items::new(alloc),
+    })
+}
