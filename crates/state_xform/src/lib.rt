@@ -3,10 +3,10 @@
 #![tactic(auto)]
 
 mod always;
-mod elements;
-mod names;
 mod covering;
+mod elements;
 mod functions;
+mod names;
 #[cfg(test)]
 mod tests;
 mod transformers;
