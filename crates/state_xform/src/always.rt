@@ -1,7 +1,6 @@
 //! The names that every path through a body sets, found in one walk.
 
 ghost use Rattle.std.specs.Prelude.{◌≡◌, IfOk, map, true};
-ghost use Rattle.std.specs.Str.{bytes_eq};
 ghost use Rattle.c_lang.specs.Names.{Bytes};
 ghost use Rattle.c_lang.specs.Trees.{statement_of, statements};
 ghost use Rattle.state_xform.specs.AllNames.{IsFound, sets_at};
