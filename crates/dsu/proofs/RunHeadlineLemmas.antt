@@ -1,5 +1,5 @@
 -- What follows from the outcome of `run` where files and sink tell their bytes.
-use Rattle.std.proofs.Common.{◌≡◌, ◌∙◌, ◌≤◌, ◌++◌, List, length, Option, None, Some, sym, ap, refl, subst, inl, inr}
+use Rattle.std.proofs.Common.{◌≡◌, ◌∙◌, ◌≤◌, ◌++◌, length, Option, Some, sym, ap, refl, subst, inl, inr}
 use Rattle.std.specs.Prelude.{◌⊎◌}
 use Rattle.c_lang.specs.Units.{size_limit}
 use Rattle.c_lang.specs.declared.unit.Unit.TheVariants.{Merge}

@@ -2,8 +2,7 @@
 use Rattle.std.proofs.Common.{◌≡◌, refl, ap, IsErrOf, Err}
 use Rattle.plain_run.specs.declared.step.RunError.{RunError}
 use Rattle.plain_run.specs.declared.step.RunError.TheVariants as error
-use Rattle.dsu.specs.declared.stop.Stop.{Stop}
-use Rattle.dsu.specs.declared.stop.Stop.TheVariants.{NoMemory, Deep}
+use Rattle.dsu.specs.declared.stop.Stop.TheVariants.{Deep}
 use Rattle.dsu.specs.Stops.{stop_of}
 
 -- an error is the same beside another type of value

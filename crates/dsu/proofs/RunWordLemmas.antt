@@ -1,6 +1,6 @@
 -- What the words of `run` give.
-use Rattle.std.proofs.Common.{◌≡◌, refl, sym, ap, ap₂, ◌∙◌, subst, ℕ, suc, ◌<◌, arith, ◌+◌, ℤ, List, [], ◌∷◌, ◌++◌, length, get_or, take, drop, map, Bool, true, false, Option, Some, None, is_some, option_map, String, string_bytes}
-use Rattle.std.specs.Prelude.{nat_eq, MatchOption, if◌then◌else◌}
+use Rattle.std.proofs.Common.{◌≡◌, refl, sym, ap, ◌∙◌, subst, ℕ, suc, ◌<◌, arith, ◌+◌, ℤ, List, [], ◌∷◌, ◌++◌, length, get_or, take, drop, map, true, false, Option, Some, None, option_map, String, string_bytes}
+use Rattle.std.specs.Prelude.{nat_eq, MatchOption}
 use Rattle.std.specs.Borrow.{Bor}
 use Rattle.std.specs.List.{starts_with, list_all}
 use Rattle.std.specs.declared.alloc.Global.{Global}
@@ -9,7 +9,7 @@ use Rattle.std.specs.Str.Pattern.{FindsTextPrefix, StripsPrefix}
 use Rattle.std.proofs.lemmas.List.{take_more, map-append}
 use Rattle.std.proofs.lemmas.List.Folds.{list_all-map}
 use Rattle.std.proofs.lemmas.Str.Pattern.{starts_text}
-use Rattle.dsu.specs.Words.{Text, RunRequest, Run, with_chosen, chosen, added, file_in, behind, is_run_word, run_with, run_of, value_of, answers_name, steps_name, request_of}
+use Rattle.dsu.specs.Words.{Text, with_chosen, chosen, added, file_in, behind, is_run_word, run_of, value_of, answers_name, steps_name}
 use Rattle.dsu.specs.Numbers.{answers_of, steps_of}
 use Rattle.dsu.specs.Seen.{seen_text, IsChosen}
 use Rattle.dsu.specs.declared.run_words.Chosen.{Chosen}

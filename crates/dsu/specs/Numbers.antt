@@ -1,5 +1,5 @@
 -- Numbers and lists of numbers in words.
-use Rattle.std.specs.Prelude.{ℕ, nat_le, ℤ, pos, negsuc, Bool, ◌&&◌, ◌==◌, if◌then◌else◌, List, [], ◌∷◌, length, Option, Some, None, bytes_eq, option_map, codes}
+use Rattle.std.specs.Prelude.{ℕ, nat_le, ℤ, pos, negsuc, ◌&&◌, ◌==◌, if◌then◌else◌, List, [], ◌∷◌, length, Option, Some, None, bytes_eq, codes}
 use Rattle.std.specs.List.{slice_split}
 use Rattle.std.specs.Fmt.{signed_decimal}
 use Rattle.std.specs.Str.Parse.{signed_digits_value}

@@ -1,5 +1,5 @@
 -- What the words after the program's name ask for.
-use Rattle.std.specs.Prelude.{ℕ, ℤ, Bool, true, false, not, ◌&&◌, ◌||◌, if◌then◌else◌, List, [], ◌∷◌, ◌++◌, length, drop, Option, Some, None, nat_eq, bytes_eq, option_map, codes}
+use Rattle.std.specs.Prelude.{ℕ, ℤ, Bool, not, ◌||◌, if◌then◌else◌, List, [], ◌∷◌, ◌++◌, length, drop, Option, Some, None, nat_eq, bytes_eq, option_map, codes}
 use Rattle.std.specs.List.{list_any, list_all, starts_with}
 use Rattle.dsu.specs.Numbers.{answers_of, steps_of}
 

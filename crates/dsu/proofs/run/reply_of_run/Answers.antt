@@ -1,4 +1,4 @@
-use Rattle.std.proofs.Common.{◌≡◌, ◌∙◌, ap, subst, inr, refl, List, ℤ}
+use Rattle.std.proofs.Common.{◌∙◌, ap, subst, inr, refl, List, ℤ}
 use Rattle.c_lang.specs.declared.event.Event.{Event}
 use Rattle.plain_run.specs.PlainRun.{events}
 use Rattle.run_replay.specs.Replays.{IsPlainClose, StaysShallow}

@@ -1,4 +1,4 @@
-use Rattle.std.proofs.Common.{refl, inl}
+use Rattle.std.proofs.Common.{inl}
 use Rattle.c_lang.specs.declared.unit.Unit.TheVariants.{Merge}
 use Rattle.dsu.proofs.TypedTextLemmas.{has-program, is-refused}
 use Rattle.dsu.proofs.run.reply_to_text.Goals as goal

@@ -1,4 +1,4 @@
-use Rattle.std.proofs.Common.{◌∙◌, sym, ap}
+use Rattle.std.proofs.Common.{◌∙◌, sym}
 use Rattle.dsu.proofs.RunWordLemmas.{unknown-word, run-is}
 use Rattle.dsu.proofs.run_words.read_run.Goals as goal
 

@@ -1,6 +1,5 @@
-use Rattle.std.proofs.Common.{◌≡◌, List, Err}
+use Rattle.std.proofs.Common.{◌≡◌, Err}
 use Rattle.std.proofs.lemmas.Result.{err_from_is_err_and}
-use Rattle.c_lexer.specs.declared.token.Token.{Token}
 use Rattle.dsu.proofs.TypedTextLemmas.{tokens-refused, grammar-refused, checked, source-only, checked-only}
 use Rattle.dsu.proofs.typed_text.typed_text.Goals as goal
 
