@@ -170,7 +170,7 @@ match_complete (Some Row) p h = absurd h
 match_complete (Some (Refused n)) p h = absurd h
 match_complete None p h = absurd h
 
-protos_sound : (functions : Entries) (ps : List Proto) → refusal_of_protos functions ps ≡ None → AreTypedProtos functions ps
+pub protos_sound : (functions : Entries) (ps : List Proto) → refusal_of_protos functions ps ≡ None → AreTypedProtos functions ps
 protos_sound functions [] h = tt
 protos_sound functions (p ∷ ps) h =
     let q = first_none (at_place (wrong_proto functions p) p.pos) (refusal_of_protos functions ps) h in
@@ -178,7 +178,7 @@ protos_sound functions (p ∷ ps) h =
     let count = count_sound p.params r.1 in
     (record { matches = match_sound (found functions p.name) p r.0; few = count.0; narrow = count.1 }, protos_sound functions ps q.1)
 
-protos_complete : (functions : Entries) (ps : List Proto) → AreTypedProtos functions ps → refusal_of_protos functions ps ≡ None
+pub protos_complete : (functions : Entries) (ps : List Proto) → AreTypedProtos functions ps → refusal_of_protos functions ps ≡ None
 protos_complete functions [] h = refl
 protos_complete functions (p ∷ ps) h =
     let one = h.0 in
@@ -214,7 +214,7 @@ end_complete true false ends h = rw (h refl refl) refl
 end_complete true true ends h = refl
 end_complete false main ends h = refl
 
-func_sound : (again : Option ℕ) (outside : Entries) (xform : Bool) (f : Func) → refusal_of_func again outside xform f ≡ None
+pub func_sound : (again : Option ℕ) (outside : Entries) (xform : Bool) (f : Func) → refusal_of_func again outside xform f ≡ None
     → (again ≡ None) × IsTypedFunc outside xform f
 func_sound again outside xform f h =
     let s = scope_of outside xform f.gives in
@@ -237,7 +237,7 @@ func_sound again outside xform f h =
       },
     )
 
-func_complete : (again : Option ℕ) (outside : Entries) (xform : Bool) (f : Func) → again ≡ None → IsTypedFunc outside xform f
+pub func_complete : (again : Option ℕ) (outside : Entries) (xform : Bool) (f : Func) → again ≡ None → IsTypedFunc outside xform f
     → refusal_of_func again outside xform f ≡ None
 func_complete again outside xform f a h =
     let s = scope_of outside xform f.gives in
@@ -267,7 +267,7 @@ funcs_complete outside xform seen (f ∷ fs) h =
 
 -- ---- programs
 
-early_sound : (rs : List Refusal) → first_early rs ≡ None → rs ≡ []
+pub early_sound : (rs : List Refusal) → first_early rs ≡ None → rs ≡ []
 early_sound [] h = refl
 early_sound (r ∷ rs) h = absurd (some_none r h)
 

@@ -16,7 +16,8 @@ use c_lang::{
 };
 use std::alloc::{AllocError, Global};
 
-fn means_of_shape(shape: &Shape) -> Means
+/// What the name of a global of this shape stands for.
+pub fn means_of_shape(shape: &Shape) -> Means
     ensures { result ≡ spec.means_of_shape shape.now }
 {
     match shape {

@@ -34,7 +34,8 @@ pub fn check_funcs(
     Ok(all)
 }
 
-fn has_none(params: &[(Kind, Name)]) -> bool
+/// Whether there are no parameters.
+pub fn has_none(params: &[(Kind, Name)]) -> bool
     ensures { result ≡ spec.is_empty params.now }
 {
     match params {
@@ -100,7 +101,8 @@ fn copy_name(alloc: Global, name: &Option<Name>) -> Result<Option<Name>, AllocEr
     }
 }
 
-fn stop_early(alloc: Global, early: &[Refusal]) -> Result<(), Fail>
+/// The first refusal that the parser noted for a declaration, or want of memory.
+pub fn stop_early(alloc: Global, early: &[Refusal]) -> Result<(), Fail>
     ensures { Checked result (spec.first_early early.now) tt }
 {
     let [why, _others @ ..] = early else {

@@ -64,8 +64,10 @@ pub fn wrong_effect(scope: &Scope) -> Option<u8>
     if scope.xform { Some(19) } else { None }
 }
 
+/// Whether the name begins as those of one version alone do in a transformer: with `dsu_old_` or
+/// `dsu_new_`.
 #[tactic(auto, unfolding(crate::specs::Scopes::names_version))]
-fn names_version(name: &Name) -> bool
+pub fn names_version(name: &Name) -> bool
     ensures { result ≡ spec.names_version name.now }
 {
     let name = name.as_bytes();

@@ -1,5 +1,4 @@
 mod AllLaws
 mod NameLaws
 mod PathLaws
-mod FunctionsTyped
 mod TransformerLaws

@@ -32,7 +32,7 @@ use Rattle.state_xform.specs.Refusals.{refusal_of_first, in_version, wrong_own_n
 use Rattle.state_xform.specs.Transformers.{IsOwnName, AreOwnFuncs, start_name, is_start, is_covered, changed_globals, IsTransformer}
 use Rattle.state_xform.specs.Kept.{IsChecked}
 use Rattle.state_xform.specs.Visible.{Parts, parts_in, visible}
-use Rattle.state_xform.proofs.FunctionsTyped.{protos_sound, protos_complete, func_sound, func_complete, early_sound}
+use Rattle.c_types.proofs.ProgramsTyped.{protos_sound, protos_complete, func_sound, func_complete, early_sound}
 
 -- ---- globals
 

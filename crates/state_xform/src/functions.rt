@@ -3,25 +3,17 @@
 ghost use Rattle.std.specs.Prelude.{◌≡◌, true, []};
 ghost use Rattle.c_types.specs.Checks.{Checked};
 ghost use Rattle.c_types.specs.Programs.{resolved_funcs};
-ghost use Rattle.c_types.specs.Scopes as scopes;
 ghost use Rattle.state_xform.specs.Refusals as spec;
 ghost use Rattle.state_xform.specs.Visible.{parts_in};
 
 use c_lang::{Fail, Func, Name};
 use c_types::declarations::add_func;
 use c_types::functions::check_func;
+use c_types::scope::names_version;
 use c_types::{Scope, Symbols};
 use sqlite_items::Items;
 use std::alloc::Global;
 use version_names::{Links, Sort2, Version};
-
-#[tactic(auto, unfolding(c_types::specs::Scopes::names_version))]
-fn names_version(name: &Name) -> bool
-    ensures { result ≡ scopes.names_version name.now }
-{
-    let name = name.as_bytes();
-    name.starts_with(b"dsu_old_") || name.starts_with(b"dsu_new_")
-}
 
 fn in_version(links: &Links, name: &Name) -> bool
     ensures { result ≡ spec.in_version (parts_in links.now) name.now }

@@ -13,10 +13,11 @@ ghost use Rattle.state_xform.specs.Visible as seen;
 use crate::covering::check_coverage;
 use crate::functions::check_funcs;
 use crate::visible::visible;
-use c_lang::{Fail, Func, GlobalVar, Kind, Name, Pos, Program, Refusal, Unit};
+use c_lang::{Fail, Func, GlobalVar, Name, Pos, Program, Refusal, Unit};
 use c_types::Symbols;
 use c_types::declarations::{cell_limit, check_globals, check_protos};
 use c_types::means::smaller;
+use c_types::programs::{has_none, stop_early};
 use c_types::simple::stop;
 use sqlite_items::Items;
 use std::alloc::{AllocError, Global};
@@ -71,15 +72,6 @@ fn check_declarations(alloc: Global, outside: &Symbols, program: &Program) -> Re
     check_protos(alloc, program.funcs.as_slice(), program.protos.as_slice())
 }
 
-fn has_none(params: &[(Kind, Name)]) -> bool
-    ensures { result ≡ programs.is_empty params.now }
-{
-    match params {
-        [] => true,
-        [_p, _ps @ ..] => false,
-    }
-}
-
 #[tactic(auto, unfolding(crate::specs::Transformers::start_name))]
 fn is_start_name(name: &Name) -> bool
     ensures { result ≡ bytes_eq name.now transformer.start_name }
@@ -112,29 +104,6 @@ fn no_start() -> Result<(), Fail>
         line: 1,
     };
     stop(Some(13), line)
-}
-
-fn copy_name(alloc: Global, name: &Option<Name>) -> Result<Option<Name>, AllocError>
-    ensures { IfOk result (λ copy. copy ≡ name.now) }
-{
-    match name {
-        None => Ok(None),
-        Some(name) => Ok(Some(name.copy(alloc)?)),
-    }
-}
-
-fn stop_early(alloc: Global, early: &[Refusal]) -> Result<(), Fail>
-    ensures { Checked result (programs.first_early early.now) tt }
-{
-    let [why, _others @ ..] = early else {
-        return Ok(());
-    };
-    let name = copy_name(alloc, &why.name)?;
-    Err(Fail::Refused(Refusal {
-        number: why.number,
-        pos: why.pos,
-        name,
-    }))
 }
 
 fn check_started(

@@ -1,25 +1,14 @@
 //! What the functions of a transformer see.
 
 ghost use Rattle.std.specs.Prelude.{◌≡◌, IfOk, OnOk};
-ghost use Rattle.c_types.specs.Programs as programs;
 ghost use Rattle.state_xform.specs.Visible as spec;
 
-use c_lang::{Func, GlobalVar, Kind, Name, Program, Shape};
-use c_types::declarations::outside_of;
+use c_lang::{Func, GlobalVar, Name, Program};
+use c_types::declarations::{means_of_shape, outside_of};
 use c_types::functions::{kinds_of, value_of};
 use c_types::{Means, Symbols};
 use std::alloc::{AllocError, Global};
 use version_names::{Links, Origin, Part, Sort2, Version, merged_name};
-
-fn means_of_shape(shape: &Shape) -> Means
-    ensures { result ≡ programs.means_of_shape shape.now }
-{
-    match shape {
-        Shape::Int(_) => Means::Cell(Kind::Int),
-        Shape::Arr(_) => Means::Row,
-        Shape::Fp(n, _) => Means::Cell(Kind::Fp(*n)),
-    }
-}
 
 // An own function may be called, and its name is no value.
 fn own_func(alloc: Global, f: &Func) -> Result<Means, AllocError>
