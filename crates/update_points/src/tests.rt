@@ -83,3 +83,21 @@ fn points_of_a_client_come_behind(rt: HostRuntime) -> Result<(), AllocError> {
     }
     Ok(())
 }
+
+#[test]
+fn points_of_one_update(rt: HostRuntime) -> Result<(), AllocError> {
+    let once =
+        b"#include \"dsu.h\"\nint n = 1;\nint main(void) {\nclient_out(n);\ndsu_update(1);\nclient_out(n);\nreturn 0;\n}".as_slice();
+    let twice =
+        b"#include \"dsu.h\"\nint n = 1;\nint main(void) {\nclient_out(n);\ndsu_update(1);\ndsu_update(1);\nreturn 0;\n}".as_slice();
+    let cases = [
+        (once, None, "1000"),
+        (once, Some([].as_slice()), "0000"),
+        (once, Some([2].as_slice()), "17 old:1"),
+        (twice, None, "16 old:6"),
+    ];
+    for (old, listed, want) in cases {
+        assert_eq!(rt; of_old(rt.alloc(), old, listed)?.as_str(), want);
+    }
+    Ok(())
+}
