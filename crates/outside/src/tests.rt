@@ -24,8 +24,8 @@ fn check_reads<F: Files>(
 fn reads_from_the_disk(rt: HostRuntime) -> Result<(), Fail> {
     let alloc = rt.alloc();
     let id = process::id(rt.process());
-    let name = format!(in alloc; "/tmp/outside_{id}")?;
-    let missing = format!(in alloc; "/tmp/outside_{id}_missing")?;
+    let name = format!(in alloc; "outside_{id}.tmp")?;
+    let missing = format!(in alloc; "outside_{id}_missing.tmp")?;
     // More bytes than one call of the system gives.
     let bytes = vec![in alloc; b'x'; 10_000]?;
     fs::write(&rt, name.as_str(), bytes.as_slice())?;
