@@ -18,6 +18,7 @@ pub fn put_name(name: &Sym, out: &mut String) -> Result<(), AllocError> {
     Ok(())
 }
 
+#[cycle(written)]
 pub fn put_term(term: &Term, out: &mut String) -> Result<(), AllocError> {
     let (left, right, sign) = match term {
         Term::Num(number) => return write!(out, " {number}"),
@@ -42,6 +43,7 @@ pub fn put_term(term: &Term, out: &mut String) -> Result<(), AllocError> {
     put_word(out, sign)
 }
 
+#[cycle(written)]
 pub fn put_array(array: &ArrayTerm, out: &mut String) -> Result<(), AllocError> {
     match array {
         ArrayTerm::Base(name) => put_name(name, out),
@@ -54,6 +56,7 @@ pub fn put_array(array: &ArrayTerm, out: &mut String) -> Result<(), AllocError> 
     }
 }
 
+#[cycle(written)]
 pub fn put_form(form: &Form, out: &mut String) -> Result<(), AllocError> {
     match form {
         Form::True => put_word(out, "true"),
