@@ -164,39 +164,3 @@ pub fn function(
         pos,
     })
 }
-
-#[cfg(test)]
-mod tests {
-    use super::*;
-    use std::test::Fail;
-
-    #[test]
-    fn parts_are_built(rt: HostRuntime) -> Result<(), Fail> {
-        let alloc = rt.alloc();
-        let pos = Pos {
-            unit: crate::Unit::Old,
-            line: 4,
-        };
-        let name = both_name(alloc, b"n")?;
-        assert_eq!(rt; name.as_bytes(), b"dsu_both_n".as_slice());
-        match expansion(alloc, pos, pos, pos, pos, pos, 7)? {
-            Stmt::If { yes, .. } => match yes.as_slice() {
-                [Stmt::Choice { k, .. }, Stmt::If { yes, .. }] => {
-                    assert_eq!(rt; *k, 7);
-                    assert_eq!(rt; yes.len(), 2);
-                }
-                _ => panic!(rt; "not a question and a test"),
-            },
-            _ => panic!(rt; "no test of the flag"),
-        }
-        let new = returned_call(alloc, pos, pos, b"dsu_new_main")?;
-        let old = returned_call(alloc, pos, pos, b"dsu_old_main")?;
-        let body = wrapper_body(alloc, pos, new, old)?;
-        assert_eq!(rt; body.len(), 1);
-        let proto = prototype(alloc, b"main", true, pos)?;
-        assert_eq!(rt; proto.name.as_bytes(), b"main".as_slice());
-        let func = function(alloc, b"main", true, body, pos)?;
-        assert_eq!(rt; func.body.len(), 1);
-        Ok(())
-    }
-}

@@ -6,8 +6,6 @@ mod bytes;
 mod directive;
 mod lexer;
 mod piece;
-#[cfg(test)]
-mod tests;
 mod token;
 mod words;
 
