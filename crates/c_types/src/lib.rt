@@ -21,6 +21,3 @@ pub use means::Means;
 pub use scope::{Block, Scope};
 pub use symbols::Symbols;
 pub use typed::{Typed, check};
-
-#[cfg(test)]
-mod tests;

@@ -35,6 +35,7 @@ fn resolve_literal(place: Kind, number: i32) -> Expr
 }
 
 /// The resolved form of an expression at its place.
+#[cycle(resolve)]
 pub fn resolve(alloc: Global, scope: &Scope, place: Kind, e: &Expr) -> Result<Expr, AllocError>
     ensures { IfOk result (λ expr. expr ≡ spec.resolved (names_of scope.now) place (expression_of e.now)) }
 {
@@ -43,24 +44,31 @@ pub fn resolve(alloc: Global, scope: &Scope, place: Kind, e: &Expr) -> Result<Ex
         Expr::Var(x) => resolve_name(alloc, x, scope.look(x)),
         Expr::Elem(a, i) => {
             let a = a.copy(alloc)?;
-            let i = resolve(alloc, scope, Kind::Int, i.get())?;
-            Ok(Expr::Elem(a, Boxed::new(alloc, i)?))
+            let i = boxed(alloc, scope, Kind::Int, i.get())?;
+            Ok(Expr::Elem(a, i))
         }
         Expr::FunRef(f) => Ok(Expr::FunRef(f.copy(alloc)?)),
         Expr::Null => Ok(Expr::Null),
-        Expr::Neg(a) => {
-            let a = resolve(alloc, scope, Kind::Int, a.get())?;
-            Ok(Expr::Neg(Boxed::new(alloc, a)?))
-        }
-        Expr::Not(a) => {
-            let a = resolve(alloc, scope, Kind::Int, a.get())?;
-            Ok(Expr::Not(Boxed::new(alloc, a)?))
-        }
+        Expr::Neg(a) => Ok(Expr::Neg(boxed(alloc, scope, Kind::Int, a.get())?)),
+        Expr::Not(a) => Ok(Expr::Not(boxed(alloc, scope, Kind::Int, a.get())?)),
         Expr::Bin(op, a, b) => {
             let both = place_of(scope, *op, a.get(), b.get());
-            let a = resolve(alloc, scope, both, a.get())?;
-            let b = resolve(alloc, scope, both, b.get())?;
-            Ok(Expr::Bin(*op, Boxed::new(alloc, a)?, Boxed::new(alloc, b)?))
+            let a = boxed(alloc, scope, both, a.get())?;
+            let b = boxed(alloc, scope, both, b.get())?;
+            Ok(Expr::Bin(*op, a, b))
         }
     }
+}
+
+/// The same in a box, where other work comes before its use.
+#[cycle(resolve)]
+pub fn boxed(
+    alloc: Global,
+    scope: &Scope,
+    place: Kind,
+    e: &Expr,
+) -> Result<Boxed<Expr>, AllocError>
+    ensures { IfOk result (λ expr. expr ≡ spec.resolved (names_of scope.now) place (expression_of e.now)) }
+{
+    Boxed::new(alloc, resolve(alloc, scope, place, e)?)
 }

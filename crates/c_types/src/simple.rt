@@ -19,9 +19,10 @@ use crate::calls::{
 };
 use crate::expressions::wrong;
 use crate::means::smaller;
-use crate::resolving::resolve;
+use crate::resolving::{boxed, resolve};
 use crate::scope::{Block, Scope, copy_dest, declare, wrong_dest, wrong_effect};
 use c_lang::{Dest, Expr, Fail, Kind, Name, Pos, Refusal, Stmt};
+use sqlite_items::Boxed;
 use std::alloc::Global;
 
 /// The refusal by this number, where there is one.
@@ -61,10 +62,14 @@ pub fn set(
     let place = place_in(scope, dest, value);
     let number = smaller(wrong_dest(scope, block, dest), wrong(scope, place, value));
     stop(number, pos)?;
-    let value = resolve(alloc, scope, place, value)?;
+    let value = boxed(alloc, scope, place, value)?;
     declare(alloc, scope, dest)?;
     let dest = copy_dest(alloc, dest)?;
-    Ok(Stmt::Set { pos, dest, value })
+    Ok(Stmt::Set {
+        pos,
+        dest,
+        value: value.into_inner(),
+    })
 }
 
 /// A value that goes to an element.
@@ -80,13 +85,13 @@ pub fn set_element(
 {
     stop(wrong_element(scope, array, index, value), pos)?;
     let kind = element_kind(scope, scope.look(array), value);
-    let index = resolve(alloc, scope, Kind::Int, index)?;
-    let value = resolve(alloc, scope, kind, value)?;
     let array = array.copy(alloc)?;
+    let index = boxed(alloc, scope, Kind::Int, index)?;
+    let value = resolve(alloc, scope, kind, value)?;
     Ok(Stmt::SetElem {
         pos,
         array,
-        index,
+        index: index.into_inner(),
         value,
     })
 }
@@ -106,9 +111,12 @@ pub fn call(
 {
     let inside = wrong_call(scope, scope.look(callee), dest, args);
     stop(smaller(wrong_dest(scope, block, dest), inside), pos)?;
-    let stmt = resolve_call(alloc, scope, pos, dest, callee, args)?;
+    let stmt = Boxed::new(
+        alloc,
+        resolve_call(alloc, scope, pos, dest, callee, args)?,
+    )?;
     declare(alloc, scope, dest)?;
-    Ok(stmt)
+    Ok(stmt.into_inner())
 }
 
 /// A call that is written as one through a pointer.

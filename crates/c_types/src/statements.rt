@@ -12,7 +12,7 @@ use crate::scope::{Block, Scope, add_dest, wrong_effect};
 use crate::simple::{answer, call, call_by, int, output, return_with, set, set_element, stop};
 use crate::symbols::Symbols;
 use c_lang::{Fail, Stmt};
-use sqlite_items::Items;
+use sqlite_items::{Boxed, Items};
 use std::alloc::{AllocError, Global};
 
 // The local that the statement declares.
@@ -77,22 +77,22 @@ pub fn statement(alloc: Global, scope: &mut Scope, block: Block, s: &Stmt) -> Re
             args,
         } => call_by(alloc, scope, block, *pos, dest, pointer, args.as_slice()),
         Stmt::If { pos, cond, yes, no } => {
-            let cond = int(alloc, scope, *pos, cond)?;
+            let cond = Boxed::new(alloc, int(alloc, scope, *pos, cond)?)?;
             let yes = body(alloc, scope, yes.as_slice())?;
             let no = body(alloc, scope, no.as_slice())?;
             Ok(Stmt::If {
                 pos: *pos,
-                cond,
+                cond: cond.into_inner(),
                 yes,
                 no,
             })
         }
         Stmt::While { pos, cond, body: s } => {
-            let cond = int(alloc, scope, *pos, cond)?;
+            let cond = Boxed::new(alloc, int(alloc, scope, *pos, cond)?)?;
             let body = body(alloc, scope, s.as_slice())?;
             Ok(Stmt::While {
                 pos: *pos,
-                cond,
+                cond: cond.into_inner(),
                 body,
             })
         }
@@ -160,6 +160,7 @@ pub fn body(alloc: Global, scope: &mut Scope, stmts: &[Stmt]) -> Result<Items<St
     };
     add_locals(alloc, &mut scope.ahead, stmts)?;
     let all = sequence(alloc, scope, block, stmts)?;
+    add_locals(alloc, &mut scope.told, stmts)?;
     scope.locals.truncate(block.base);
     scope.ahead.truncate(block.mark);
     Ok(all)
