@@ -103,11 +103,16 @@ wrong_call_by scope (Code params gives value denied) d es = smaller (Some 10) (w
 wrong_call_by scope Row d es = smaller (Some 10) (wrong_each (names_of scope) es)
 wrong_call_by scope (Refused n) d es = smaller (Some n) (wrong_each (names_of scope) es)
 
+-- only a function's parameters are places: what a pointer takes is ints, and resolved as what goes to no place
+abbrev pub places_of : Means → List Kind
+places_of (Code params gives value denied) = params
+places_of (Cell k) = []
+places_of Row = []
+places_of (Refused n) = []
+
 abbrev pub resolved_call : Scope → Means → Pos → Dest → Bytes → List Expression → Stmt
-resolved_call scope (Code params gives value denied) p d f es = stmt.Call p d f (resolved_args (names_of scope) params es)
 resolved_call scope (Cell k) p d f es = stmt.CallBy p d f (resolved_args (names_of scope) [] es)
-resolved_call scope Row p d f es = stmt.Call p d f (resolved_args (names_of scope) [] es)
-resolved_call scope (Refused n) p d f es = stmt.Call p d f (resolved_args (names_of scope) [] es)
+resolved_call scope m p d f es = stmt.Call p d f (resolved_args (names_of scope) (places_of m) es)
 
 -- ---- return
 

@@ -228,6 +228,24 @@ pub fn resolve_args(
     Ok(all)
 }
 
+// The arguments of a call of this name.
+fn resolve_given(
+    alloc: Global,
+    scope: &Scope,
+    callee: Option<&Means>,
+    args: &[Expr],
+) -> Result<Items<Expr>, AllocError>
+    ensures { IfOk result (λ exprs. exprs ≡ spec.resolved_args (names_of scope.now) (spec.places_of (meant (option_copied callee.entry))) (map expression_of args.now)) }
+{
+    match callee {
+        Some(Means::Code { params, .. }) => resolve_args(alloc, scope, params.as_slice(), args),
+        Some(Means::Cell(_)) => resolve_args(alloc, scope, &[], args),
+        Some(Means::Row) => resolve_args(alloc, scope, &[], args),
+        Some(Means::Refused(_)) => resolve_args(alloc, scope, &[], args),
+        None => resolve_args(alloc, scope, &[], args),
+    }
+}
+
 /// A call in its resolved form. The only error is want of memory.
 pub fn resolve_call(
     alloc: Global,
@@ -241,25 +259,23 @@ pub fn resolve_call(
 {
     let dest = copy_dest(alloc, dest)?;
     let name = callee.copy(alloc)?;
-    match scope.look(callee) {
-        Some(Means::Code { params, .. }) => Ok(Stmt::Call {
-            pos,
-            dest,
-            callee: name,
-            args: resolve_args(alloc, scope, params.as_slice(), args)?,
-        }),
+    let means = scope.look(callee);
+    let args = resolve_given(alloc, scope, means, args)?;
+    match means {
         Some(Means::Cell(_)) => Ok(Stmt::CallBy {
             pos,
             dest,
             pointer: name,
-            args: resolve_args(alloc, scope, &[], args)?,
+            args,
         }),
-        Some(Means::Row) | Some(Means::Refused(_)) | None => Ok(Stmt::Call {
-            pos,
-            dest,
-            callee: name,
-            args: resolve_args(alloc, scope, &[], args)?,
-        }),
+        Some(Means::Code { .. }) | Some(Means::Row) | Some(Means::Refused(_)) | None => {
+            Ok(Stmt::Call {
+                pos,
+                dest,
+                callee: name,
+                args,
+            })
+        }
     }
 }
 

@@ -8,11 +8,14 @@ ghost use Rattle.c_types.specs.Checks.{Checked};
 ghost use Rattle.c_types.specs.Scopes.{with_dest};
 ghost use Rattle.c_types.specs.Statements as spec;
 
-use crate::scope::{Block, Scope, add_dest, wrong_effect};
-use crate::simple::{answer, call, call_by, int, output, return_with, set, set_element, stop};
+use crate::scope::{Block, Scope, add_dest};
+use crate::simple::{
+    assert_that, call, call_by, choice, input, int, of_clients_alone, output, point, return_with,
+    set, set_element,
+};
 use crate::symbols::Symbols;
 use c_lang::{Fail, Stmt};
-use sqlite_items::{Boxed, Items};
+use sqlite_items::Items;
 use std::alloc::{AllocError, Global};
 
 // The local that the statement declares.
@@ -77,7 +80,7 @@ pub fn statement(alloc: Global, scope: &mut Scope, block: Block, s: &Stmt) -> Re
             args,
         } => call_by(alloc, scope, block, *pos, dest, pointer, args.as_slice()),
         Stmt::If { pos, cond, yes, no } => {
-            let cond = Boxed::new(alloc, int(alloc, scope, *pos, cond)?)?;
+            let cond = int(alloc, scope, *pos, cond)?;
             let yes = body(alloc, scope, yes.as_slice())?;
             let no = body(alloc, scope, no.as_slice())?;
             Ok(Stmt::If {
@@ -88,7 +91,7 @@ pub fn statement(alloc: Global, scope: &mut Scope, block: Block, s: &Stmt) -> Re
             })
         }
         Stmt::While { pos, cond, body: s } => {
-            let cond = Boxed::new(alloc, int(alloc, scope, *pos, cond)?)?;
+            let cond = int(alloc, scope, *pos, cond)?;
             let body = body(alloc, scope, s.as_slice())?;
             Ok(Stmt::While {
                 pos: *pos,
@@ -98,35 +101,13 @@ pub fn statement(alloc: Global, scope: &mut Scope, block: Block, s: &Stmt) -> Re
         }
         Stmt::Break { pos } => Ok(Stmt::Break { pos: *pos }),
         Stmt::Return { pos, value } => return_with(alloc, scope, *pos, value),
-        Stmt::Assert { pos, cond } => Ok(Stmt::Assert {
-            pos: *pos,
-            cond: int(alloc, scope, *pos, cond)?,
-        }),
-        Stmt::Input { pos, dest } => Ok(Stmt::Input {
-            pos: *pos,
-            dest: answer(alloc, scope, block, *pos, dest)?,
-        }),
-        Stmt::Output { pos, value } => Ok(Stmt::Output {
-            pos: *pos,
-            value: output(alloc, scope, *pos, value)?,
-        }),
-        Stmt::Point { pos, k } => {
-            stop(wrong_effect(scope), *pos)?;
-            Ok(Stmt::Point { pos: *pos, k: *k })
-        }
-        Stmt::Choice { pos, dest, k } => Ok(Stmt::Choice {
-            pos: *pos,
-            dest: answer(alloc, scope, block, *pos, dest)?,
-            k: *k,
-        }),
-        Stmt::Force { pos } => {
-            stop(Some(21), *pos)?;
-            Ok(Stmt::Force { pos: *pos })
-        }
-        Stmt::Pick { pos, .. } => {
-            stop(Some(21), *pos)?;
-            Ok(Stmt::Skip { pos: *pos })
-        }
+        Stmt::Assert { pos, cond } => assert_that(alloc, scope, *pos, cond),
+        Stmt::Input { pos, dest } => input(alloc, scope, block, *pos, dest),
+        Stmt::Output { pos, value } => output(alloc, scope, *pos, value),
+        Stmt::Point { pos, k } => point(scope, *pos, *k),
+        Stmt::Choice { pos, dest, k } => choice(alloc, scope, block, *pos, dest, *k),
+        Stmt::Force { pos } => of_clients_alone(*pos),
+        Stmt::Pick { pos, .. } => of_clients_alone(*pos),
     }
 }
 
