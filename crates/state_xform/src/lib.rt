@@ -7,12 +7,8 @@ mod covering;
 mod elements;
 mod functions;
 mod names;
-#[cfg(test)]
-mod tests;
 mod transformers;
 mod visible;
 mod xform;
-#[cfg(test)]
-mod xform_tests;
 
 pub use xform::{Xform, check_xform};
