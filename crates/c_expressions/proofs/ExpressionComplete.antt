@@ -3,13 +3,13 @@ use Rattle.std.proofs.Common.{◌≡◌, ℕ, ℤ, zero, suc, ◌+◌, ◌<◌, 
 use Rattle.std.specs.Prelude.{IfSome}
 use Rattle.std.proofs.lemmas.Bool.{le-ltb, lt-ltb}
 use Rattle.c_lang.specs.declared.expr.Op.{Op}
-use Rattle.c_lexer.specs.declared.token.Token.{Token}
-use Rattle.c_lexer.specs.declared.token.Word.TheVariants as w
+use Rattle.c_grammar.specs.declared.token.Token.{Token}
+use Rattle.c_grammar.specs.declared.token.Word.TheVariants as w
 use Rattle.c_lang.specs.Operators.{level}
-use Rattle.c_expressions.specs.Tokens.{At, token, operator_number}
-use Rattle.c_expressions.specs.Expressions.{Tree, number, name, element, brackets, negated, denied, joined, tokens_of, expr_of, height, binds, IsGrouped}
-use Rattle.c_expressions.specs.ParseSteps.{◌>>=◌, after}
-use Rattle.c_expressions.specs.ExpressionReading.{Found, Parse, next_by, next_operator, join, operand, named_by, more_by, more, expr}
+use Rattle.c_grammar.specs.Tokens.{At, token, operator_number}
+use Rattle.c_grammar.specs.Expressions.{Tree, number, name, element, brackets, negation, logical_not, joined, tokens_of, expr_of, height, binds, IsGrouped}
+use Rattle.c_expressions.specs.Code.ParseSteps.{◌>>=◌, after}
+use Rattle.c_expressions.specs.Code.ExpressionReading.{Found, Parse, next_by, next_operator, join, operand, named_by, more_by, more, expr}
 use Rattle.c_expressions.proofs.OperatorLaws.{operator_at-number, level_small, level_positive, no_index as never_index}
 
 -- what may stand after an expression whose outermost operator binds so tightly
@@ -40,8 +40,8 @@ height_positive (number at n) = omega arith
 height_positive (name at x) = omega arith
 height_positive (element at x o t c) = omega arith
 height_positive (brackets o t c) = omega arith
-height_positive (negated at t) = omega arith
-height_positive (denied at t) = omega arith
+height_positive (negation at t) = omega arith
+height_positive (logical_not at t) = omega arith
 height_positive (joined a at o b) = omega arith
 
 closes_by : (inner : ℕ → Parse) (go : Found → Option Found) (d m : ℕ) (left : Found) (next : Option (Op × List Token)) → IfSome next (λ x. level x.0 < m) → more_by inner go d m left next ≡ Some left
@@ -65,8 +65,8 @@ binds_something (number at n) = omega arith
 binds_something (name at x) = omega arith
 binds_something (element at x o t c) = omega arith
 binds_something (brackets o t c) = omega arith
-binds_something (negated at t) = omega arith
-binds_something (denied at t) = omega arith
+binds_something (negation at t) = omega arith
+binds_something (logical_not at t) = omega arith
 binds_something (joined a at o b) = level_positive o
 
 begins : (d m : ℕ) (ts : List Token) (x : Found) → operand (expr d) ts ≡ Some x → expr (suc d) m ts ≡ more (expr d) (suc d) (suc d) m x
@@ -82,11 +82,11 @@ module _ (inner : ℕ → Parse) where
   unfolding operand
   read_name at x rest e = ap (named_by inner x rest) e
 
-  read_negated : (at : At) (t : Tree) (rest : List Token) → inner 7 (tokens_of t ++ rest) ≡ Some (found t rest) → operand inner (tokens_of (negated at t) ++ rest) ≡ Some (found (negated at t) rest)
+  read_negated : (at : At) (t : Tree) (rest : List Token) → inner 7 (tokens_of t ++ rest) ≡ Some (found t rest) → operand inner (tokens_of (negation at t) ++ rest) ≡ Some (found (negation at t) rest)
   unfolding operand
   read_negated at t rest e = rw e refl
 
-  read_denied : (at : At) (t : Tree) (rest : List Token) → inner 7 (tokens_of t ++ rest) ≡ Some (found t rest) → operand inner (tokens_of (denied at t) ++ rest) ≡ Some (found (denied at t) rest)
+  read_denied : (at : At) (t : Tree) (rest : List Token) → inner 7 (tokens_of t ++ rest) ≡ Some (found t rest) → operand inner (tokens_of (logical_not at t) ++ rest) ≡ Some (found (logical_not at t) rest)
   unfolding operand
   read_denied at t rest e = rw e refl
 
@@ -146,12 +146,12 @@ reads (brackets o t c) (suc d) m rest out g high least f h =
     let z = token c (w.Punct 1) in
     let inside = reads t d 1 (z ∷ rest) (Some (found t (z ∷ rest))) g (omega arith) (binds_something t) (record { no_index = refl; looser = tt }) (λ k lt. closes (below d) k d 1 (found t (z ∷ rest)) tt) in
     begins d m _ (found (brackets o t c) rest) (read_brackets (expr d) o c t rest inside) ∙ h (suc d) (omega arith)
-reads (negated at t) (suc d) m rest out g high least f h =
+reads (negation at t) (suc d) m rest out g high least f h =
     let inside = reads t d 7 rest (Some (found t rest)) g.1 (omega arith) g.0 (follows_mono 7 (binds t) rest g.0 f) (λ k lt. closes_tight (below d) k d t rest) in
-    begins d m _ (found (negated at t) rest) (read_negated (expr d) at t rest inside) ∙ h (suc d) (omega arith)
-reads (denied at t) (suc d) m rest out g high least f h =
+    begins d m _ (found (negation at t) rest) (read_negated (expr d) at t rest inside) ∙ h (suc d) (omega arith)
+reads (logical_not at t) (suc d) m rest out g high least f h =
     let inside = reads t d 7 rest (Some (found t rest)) g.1 (omega arith) g.0 (follows_mono 7 (binds t) rest g.0 f) (λ k lt. closes_tight (below d) k d t rest) in
-    begins d m _ (found (denied at t) rest) (read_denied (expr d) at t rest inside) ∙ h (suc d) (omega arith)
+    begins d m _ (found (logical_not at t) rest) (read_denied (expr d) at t rest inside) ∙ h (suc d) (omega arith)
 reads (joined a at o b) (suc d) m rest out g high least f h =
     let after_a = token at (w.Punct (operator_number o)) ∷ (tokens_of b ++ rest) in
     let right = reads b d (level o + 1) rest (Some (found b rest)) g.3 (omega arith) (omega (arith, g.1)) (follows_mono (level o) (binds b) rest (omega (arith, g.1)) f) (λ k lt. closes_after (level o) (below d) k d b rest f) in

@@ -5,14 +5,14 @@ use Rattle.std.proofs.lemmas.Bool.{ltb-true, ltb-false, eqb-true}
 use Rattle.c_lang.specs.declared.expr.Expr.{Expr}
 use Rattle.c_lang.specs.declared.expr.Expr.TheVariants as e
 use Rattle.c_lang.specs.declared.expr.Op.{Op}
-use Rattle.c_lexer.specs.declared.token.Token.{Token}
-use Rattle.c_lexer.specs.declared.token.Word.{Word}
-use Rattle.c_lexer.specs.declared.token.Word.TheVariants as w
+use Rattle.c_grammar.specs.declared.token.Token.{Token}
+use Rattle.c_grammar.specs.declared.token.Word.{Word}
+use Rattle.c_grammar.specs.declared.token.Word.TheVariants as w
 use Rattle.c_lang.specs.Operators.{level}
-use Rattle.c_expressions.specs.Tokens.{At, token, operator_number}
-use Rattle.c_expressions.specs.Expressions.{Tree, number, name, element, brackets, negated, denied, joined, tokens_of, expr_of, height, binds, IsGrouped}
-use Rattle.c_expressions.specs.ParseSteps.{◌>>=◌, mark_by, after}
-use Rattle.c_expressions.specs.ExpressionReading.{operator_of, Found, Parse, next_by, next_operator, raise, closed, join, operand, operand_by, named_by, more_by, more, expr}
+use Rattle.c_grammar.specs.Tokens.{At, token, operator_number}
+use Rattle.c_grammar.specs.Expressions.{Tree, number, name, element, brackets, negation, logical_not, joined, tokens_of, expr_of, height, binds, IsGrouped}
+use Rattle.c_expressions.specs.Code.ParseSteps.{◌>>=◌, mark_by, after}
+use Rattle.c_expressions.specs.Code.ExpressionReading.{operator_of, Found, Parse, next_by, next_operator, raise, closed, join, operand, operand_by, named_by, more_by, more, expr}
 use Rattle.c_expressions.proofs.OperatorLaws.{number-operator_at, level_small, chosen}
 use Rattle.c_expressions.proofs.ExpressionComplete.{height_positive}
 
@@ -124,12 +124,12 @@ module _ (inner : ℕ → Parse) (d : ℕ) (reads : Reads inner d) where
   named-read at called ts x None o q = subst (λ (y : Found). IsPart (suc d) 7 (token at (w.Ident called) ∷ ts) y) (some_is _ x q) (record { tree = name at called; grouped = tt; high = omega arith; least = omega arith; parts = refl; program = refl; height_is = refl })
   named-read at called ts x (Some inside) o q = element-read at called ts inside x o q
 
-  negated-read : (at : At) (ts : List Token) (x : Found) → (inner 7 ts >>= λ y. Some (raise e.Neg y)) ≡ Some x → IsPart (suc d) 7 (token at (w.Punct 10) ∷ ts) x
-  negated-read at ts x q =
+  negation-read : (at : At) (ts : List Token) (x : Found) → (inner 7 ts >>= λ y. Some (raise e.Neg y)) ≡ Some x → IsPart (suc d) 7 (token at (w.Punct 10) ∷ ts) x
+  negation-read at ts x q =
       let a = bind_some (inner 7 ts) (λ y. Some (raise e.Neg y)) x q in
       let i = (reads 7 ts a.0 (omega arith) a.1).part in
       subst (λ (y : Found). IsPart (suc d) 7 (token at (w.Punct 10) ∷ ts) y) (some_is _ x a.2) (record {
-        tree = negated at i.tree;
+        tree = negation at i.tree;
         grouped = (i.least, i.grouped);
         high = omega (arith, i.high);
         least = omega arith;
@@ -138,12 +138,12 @@ module _ (inner : ℕ → Parse) (d : ℕ) (reads : Reads inner d) where
         height_is = omega (arith, i.height_is);
       })
 
-  denied-read : (at : At) (ts : List Token) (x : Found) → (inner 7 ts >>= λ y. Some (raise e.Not y)) ≡ Some x → IsPart (suc d) 7 (token at (w.Punct 14) ∷ ts) x
-  denied-read at ts x q =
+  logical_not-read : (at : At) (ts : List Token) (x : Found) → (inner 7 ts >>= λ y. Some (raise e.Not y)) ≡ Some x → IsPart (suc d) 7 (token at (w.Punct 14) ∷ ts) x
+  logical_not-read at ts x q =
       let a = bind_some (inner 7 ts) (λ y. Some (raise e.Not y)) x q in
       let i = (reads 7 ts a.0 (omega arith) a.1).part in
       subst (λ (y : Found). IsPart (suc d) 7 (token at (w.Punct 14) ∷ ts) y) (some_is _ x a.2) (record {
-        tree = denied at i.tree;
+        tree = logical_not at i.tree;
         grouped = (i.least, i.grouped);
         high = omega (arith, i.high);
         least = omega arith;
@@ -157,9 +157,9 @@ module _ (inner : ℕ → Parse) (d : ℕ) (reads : Reads inner d) where
       elim (chosen (eqb k 0) (inner 1 ts >>= (λ y. closed 1 (raise (λ a. a) y))) (cond (eqb k 10) (inner 7 ts >>= (λ y. Some (raise e.Neg y))) (cond (eqb k 14) (inner 7 ts >>= (λ y. Some (raise e.Not y))) None)) (Some x) q) [
         | inl h ↦ subst (λ (n : ℕ). IsPart (suc d) 7 (token at (w.Punct n) ∷ ts) x) (sym (eqb-true k 0 h.0)) (in_brackets-read at ts x h.1)
         | inr h ↦ elim (chosen (eqb k 10) (inner 7 ts >>= (λ y. Some (raise e.Neg y))) (cond (eqb k 14) (inner 7 ts >>= (λ y. Some (raise e.Not y))) None) (Some x) h.1) [
-          | inl i ↦ subst (λ (n : ℕ). IsPart (suc d) 7 (token at (w.Punct n) ∷ ts) x) (sym (eqb-true k 10 i.0)) (negated-read at ts x i.1)
+          | inl i ↦ subst (λ (n : ℕ). IsPart (suc d) 7 (token at (w.Punct n) ∷ ts) x) (sym (eqb-true k 10 i.0)) (negation-read at ts x i.1)
           | inr i ↦ elim (chosen (eqb k 14) (inner 7 ts >>= (λ y. Some (raise e.Not y))) None (Some x) i.1) [
-            | inl j ↦ subst (λ (n : ℕ). IsPart (suc d) 7 (token at (w.Punct n) ∷ ts) x) (sym (eqb-true k 14 j.0)) (denied-read at ts x j.1)
+            | inl j ↦ subst (λ (n : ℕ). IsPart (suc d) 7 (token at (w.Punct n) ∷ ts) x) (sym (eqb-true k 14 j.0)) (logical_not-read at ts x j.1)
             | inr j ↦ absurd (let f = j.1 in cc)
           ]
         ]

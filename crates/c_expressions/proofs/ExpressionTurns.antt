@@ -3,11 +3,11 @@ use Rattle.std.proofs.Common.{◌≡◌, ℕ, zero, suc, ◌+◌, ◌-◌, ◌<�
 use Rattle.std.proofs.lemmas.Bool.{le-ltb, lt-ltb}
 use Rattle.c_lang.specs.Operators.{level}
 use Rattle.c_lang.specs.declared.expr.Op.{Op}
-use Rattle.c_lexer.specs.declared.token.Token.{Token}
+use Rattle.c_grammar.specs.declared.token.Token.{Token}
 use Rattle.c_expressions.specs.declared.parse_error.ParseError.{ParseError}
 use Rattle.c_expressions.specs.declared.parse_error.ParseError.TheVariants as error
-use Rattle.c_expressions.specs.ParseSteps.{◌>>=◌, Fails}
-use Rattle.c_expressions.specs.ExpressionReading.{Found, Parse, next_operator, join, operand, more_by, more, expr}
+use Rattle.c_expressions.specs.Code.ParseSteps.{◌>>=◌, Fails}
+use Rattle.c_expressions.specs.Code.ExpressionReading.{Found, Parse, next_operator, join, operand, more_by, more, expr}
 
 -- enough turns are left for the whole that is read
 abbrev pub IsLeft : (ℕ → Parse) → ℕ → ℕ → Found → Option Found → Type 0

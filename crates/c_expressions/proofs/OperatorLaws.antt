@@ -6,8 +6,8 @@ use Rattle.std.proofs.lemmas.Bool.{eqb-true}
 use Rattle.c_lang.specs.declared.expr.Op.{Op}
 use Rattle.c_lang.specs.declared.expr.Op.TheVariants as op
 use Rattle.c_lang.specs.Operators.{level}
-use Rattle.c_expressions.specs.Tokens.{operator_number}
-use Rattle.c_expressions.specs.ExpressionReading.{operator_at}
+use Rattle.c_grammar.specs.Tokens.{operator_number}
+use Rattle.c_expressions.specs.Code.ExpressionReading.{operator_at}
 
 pub operator_at-number : (o : Op) → operator_at (operator_number o) ≡ Some o
 operator_at-number op.Add = refl

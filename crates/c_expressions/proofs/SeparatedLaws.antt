@@ -1,10 +1,10 @@
 -- Lists with commas: what has these tokens is read, and what is read has its tokens.
 use Rattle.std.proofs.Common.{◌≡◌, ℕ, zero, suc, ◌+◌, ◌≤◌, List, ◌∷◌, ◌++◌, length, Option, Some, None, refl, sym, ap, ◌∙◌, subst, append_assoc, arith}
 use Rattle.std.proofs.lemmas.List.{length-append}
-use Rattle.c_lexer.specs.declared.token.Token.{Token}
-use Rattle.c_expressions.specs.Tokens.{At, mark, comma}
-use Rattle.c_expressions.specs.ParseSteps.{◌>>=◌, after, separated_by, separated}
-use Rattle.c_expressions.specs.Separated.{Separated, last, more, separated_tokens, Each}
+use Rattle.c_grammar.specs.declared.token.Token.{Token}
+use Rattle.c_grammar.specs.Tokens.{At, mark, comma}
+use Rattle.c_expressions.specs.Code.ParseSteps.{◌>>=◌, after, separated_by, separated}
+use Rattle.c_grammar.specs.Separated.{Separated, last, more, separated_tokens, Each}
 use Rattle.c_expressions.proofs.ExpressionSound.{bind_some, some_is, after-is}
 
 abbrev pub size : {T : Type 0} → Separated T → ℕ

@@ -1,10 +1,10 @@
 -- Lists with commas, a turn at a time.
 use Rattle.std.proofs.Common.{◌≡◌, ℕ, zero, suc, ◌<◌, List, length, Option, Some, None, sym, ap, ◌∙◌, arith}
-use Rattle.c_lexer.specs.declared.token.Token.{Token}
+use Rattle.c_grammar.specs.declared.token.Token.{Token}
 use Rattle.c_expressions.specs.declared.parse_error.ParseError.{ParseError}
 use Rattle.c_expressions.specs.declared.parse_error.ParseError.TheVariants as error
-use Rattle.c_expressions.specs.Tokens.{comma}
-use Rattle.c_expressions.specs.ParseSteps.{◌>>=◌, Fails, after, separated_by, separated}
+use Rattle.c_grammar.specs.Tokens.{comma}
+use Rattle.c_expressions.specs.Code.ParseSteps.{◌>>=◌, Fails, after, separated_by, separated}
 
 module _ {A : Type 0} (step : A → List Token → Option (A × List Token)) where
   -- enough turns are left for the whole

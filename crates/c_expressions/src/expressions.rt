@@ -1,15 +1,14 @@
 //! Expressions, by descent: each level down has one less of the height that is left.
 
 ghost use Rattle.std.specs.Prelude.{◌≡◌, ◌≤◌, ◌<◌, ◌+◌, ◌^◌, length, max, IfOk, IfSome, Some, option_map};
-ghost use Rattle.c_expressions.specs.ExpressionReading as spec;
-ghost use Rattle.c_expressions.specs.ParseSteps.{Gives};
-ghost use Rattle.c_expressions.specs.Seen.{seen};
+ghost use Rattle.c_expressions.specs.Code.ExpressionReading as spec;
+ghost use Rattle.c_expressions.specs.Code.ParseSteps.{Gives};
+ghost use Rattle.c_expressions.specs.Code.Seen.{seen};
 
 use crate::front::{after, skip};
 use crate::parse_error::ParseError;
-use crate::words;
 use c_lang::{Expr, Name, Op};
-use c_lexer::{Token, Word};
+use c_lexer::{Token, Word, punctuator};
 use sqlite_items::Boxed;
 use std::alloc::{AllocError, Global};
 
@@ -17,19 +16,19 @@ fn operator_of(word: &Word) -> Option<Op>
     ensures { result ≡ spec.operator_of word.now }
 {
     match word {
-        Word::Punct(words::PLUS) => Some(Op::Add),
-        Word::Punct(words::MINUS) => Some(Op::Sub),
-        Word::Punct(words::STAR) => Some(Op::Mul),
-        Word::Punct(words::SLASH) => Some(Op::Div),
-        Word::Punct(words::PERCENT) => Some(Op::Rem),
-        Word::Punct(words::LESS) => Some(Op::Lt),
-        Word::Punct(words::GREATER) => Some(Op::Gt),
-        Word::Punct(words::AT_MOST) => Some(Op::Le),
-        Word::Punct(words::AT_LEAST) => Some(Op::Ge),
-        Word::Punct(words::SAME) => Some(Op::Eq),
-        Word::Punct(words::DIFFERENT) => Some(Op::Ne),
-        Word::Punct(words::AND) => Some(Op::And),
-        Word::Punct(words::OR) => Some(Op::Or),
+        Word::Punct(punctuator::PLUS) => Some(Op::Add),
+        Word::Punct(punctuator::MINUS) => Some(Op::Sub),
+        Word::Punct(punctuator::STAR) => Some(Op::Mul),
+        Word::Punct(punctuator::SLASH) => Some(Op::Div),
+        Word::Punct(punctuator::PERCENT) => Some(Op::Rem),
+        Word::Punct(punctuator::LESS) => Some(Op::Lt),
+        Word::Punct(punctuator::GREATER) => Some(Op::Gt),
+        Word::Punct(punctuator::AT_MOST) => Some(Op::Le),
+        Word::Punct(punctuator::AT_LEAST) => Some(Op::Ge),
+        Word::Punct(punctuator::SAME) => Some(Op::Eq),
+        Word::Punct(punctuator::DIFFERENT) => Some(Op::Ne),
+        Word::Punct(punctuator::AND) => Some(Op::And),
+        Word::Punct(punctuator::OR) => Some(Op::Or),
         _ => None,
     }
 }
@@ -75,7 +74,7 @@ fn join<'a>(
     })
 }
 
-fn negated(alloc: Global, found: Found<'_>) -> Result<Found<'_>, ParseError>
+fn negation(alloc: Global, found: Found<'_>) -> Result<Found<'_>, ParseError>
     requires { found.height + 1 < 2 ^ 32 }
     ensures read { Gives seen result (Some (spec.raise Expr.Neg (seen found.entry))) }
     ensures height { IfOk result (λ x. x.height ≡ found.entry.height + 1) }
@@ -88,7 +87,7 @@ fn negated(alloc: Global, found: Found<'_>) -> Result<Found<'_>, ParseError>
     })
 }
 
-fn denied(alloc: Global, found: Found<'_>) -> Result<Found<'_>, ParseError>
+fn logical_not(alloc: Global, found: Found<'_>) -> Result<Found<'_>, ParseError>
     requires { found.height + 1 < 2 ^ 32 }
     ensures read { Gives seen result (Some (spec.raise Expr.Not (seen found.entry))) }
     ensures height { IfOk result (λ x. x.height ≡ found.entry.height + 1) }
@@ -108,7 +107,7 @@ fn in_brackets(found: Found<'_>) -> Result<Found<'_>, ParseError>
     ensures rest { IfOk result (λ x. length x.rest.now ≤ length found.entry.rest.now) }
 {
     Ok(Found {
-        rest: after(words::ROUND_CLOSE, found.rest)?,
+        rest: after(punctuator::ROUND_CLOSE, found.rest)?,
         expr: found.expr,
         height: found.height + 1,
     })
@@ -120,7 +119,7 @@ fn element(alloc: Global, name: Name, found: Found<'_>) -> Result<Found<'_>, Par
     ensures height { IfOk result (λ x. x.height ≡ found.entry.height + 1) }
     ensures rest { IfOk result (λ x. length x.rest.now ≤ length found.entry.rest.now) }
 {
-    let rest = after(words::SQUARE_CLOSE, found.rest)?;
+    let rest = after(punctuator::SQUARE_CLOSE, found.rest)?;
     Ok(Found {
         expr: Expr::Elem(name, Boxed::new(alloc, found.expr)?),
         height: found.height + 1,
@@ -141,7 +140,7 @@ fn leaf(expr: Expr, rest: &[Token]) -> Found<'_>
 }
 
 #[cycle(expression)]
-#[tactic(auto, unfolding(crate::specs::ExpressionReading::operand))]
+#[tactic(auto, unfolding(crate::specs::Code::ExpressionReading::operand))]
 fn operand(alloc: Global, below: u32, tokens: &[Token]) -> Result<Found<'_>, ParseError>
     requires { below + 1 < 2 ^ 32 }
     ensures read { Gives seen result (spec.operand (spec.expr below) tokens.now) }
@@ -155,14 +154,14 @@ fn operand(alloc: Global, below: u32, tokens: &[Token]) -> Result<Found<'_>, Par
         Word::Number(n) => Ok(leaf(Expr::Lit(*n), rest)),
         Word::Ident(name) => {
             let name = name.copy(alloc)?;
-            match skip(words::SQUARE_OPEN, rest) {
+            match skip(punctuator::SQUARE_OPEN, rest) {
                 Some(inside) => element(alloc, name, expression(alloc, below, 1, inside)?),
                 None => Ok(leaf(Expr::Var(name), rest)),
             }
         }
-        Word::Punct(words::ROUND_OPEN) => in_brackets(expression(alloc, below, 1, rest)?),
-        Word::Punct(words::MINUS) => negated(alloc, expression(alloc, below, 7, rest)?),
-        Word::Punct(words::BANG) => denied(alloc, expression(alloc, below, 7, rest)?),
+        Word::Punct(punctuator::ROUND_OPEN) => in_brackets(expression(alloc, below, 1, rest)?),
+        Word::Punct(punctuator::MINUS) => negation(alloc, expression(alloc, below, 7, rest)?),
+        Word::Punct(punctuator::BANG) => logical_not(alloc, expression(alloc, below, 7, rest)?),
         _ => Err(ParseError::Syntax(tokens.len())),
     }
 }
@@ -170,7 +169,7 @@ fn operand(alloc: Global, below: u32, tokens: &[Token]) -> Result<Found<'_>, Par
 /// At most `deep` high, and with operators of at least this level outside brackets. With no height
 /// left it is the token before that has no program.
 #[cycle(expression)]
-#[tactic(auto, unfolding(crate::specs::ExpressionReading::expr))]
+#[tactic(auto, unfolding(crate::specs::Code::ExpressionReading::expr))]
 pub fn expression(
     alloc: Global,
     deep: u32,

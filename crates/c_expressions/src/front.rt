@@ -1,8 +1,8 @@
 //! What stands at the front of the tokens.
 
 ghost use Rattle.std.specs.Prelude.{◌≡◌, ◌<◌, ◌^◌, length, IfOk, IfSome, option_map};
-ghost use Rattle.c_expressions.specs.ParseSteps as spec;
-ghost use Rattle.c_expressions.specs.ParseSteps.{Gives};
+ghost use Rattle.c_expressions.specs.Code.ParseSteps as spec;
+ghost use Rattle.c_expressions.specs.Code.ParseSteps.{Gives};
 
 use crate::parse_error::ParseError;
 use c_lang::Name;

@@ -7,10 +7,3 @@ pub mod Trees
 pub mod Values
 pub mod Evaluation
 pub mod Programs
-pub mod Version
-pub mod Home
-pub mod Origin
-pub mod Links
-pub mod Sources
-pub mod Layout
-pub mod Lines

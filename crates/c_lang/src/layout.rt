@@ -2,8 +2,8 @@
 //! error is want of memory.
 
 ghost use Rattle.std.specs.Prelude.{◌≡◌, IfOk, pos};
-ghost use Rattle.c_lang.specs.Layout as layout;
-ghost use Rattle.c_lang.specs.Sources as sources;
+ghost use Rattle.c_lines.specs.Layout as layout;
+ghost use Rattle.c_lines.specs.Sources as sources;
 ghost use Rattle.c_lang.specs.declared.expr.Expr.TheVariants.{Bin, Lit, Var};
 
 use crate::{Dest, Expr, Func, Kind, Name, Op, Pos, Proto, Stmt};

@@ -1,5 +1,6 @@
 ghost use Rattle.std.specs.Prelude.{◌≡◌, Some};
-ghost use Rattle.c_lang.specs.Units.{size_limit, word};
+ghost use Rattle.c_lang.specs.Limits.{size_limit};
+ghost use Rattle.c_lang.specs.Units.{word};
 
 use std::fmt;
 

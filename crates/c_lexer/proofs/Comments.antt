@@ -3,8 +3,8 @@ use Rattle.std.proofs.Common.{◌≡◌, ℕ, ◌+◌, false, ◌&&◌, eqb, [],
 use Rattle.std.specs.Prelude.{slice_index}
 use Rattle.std.proofs.lemmas.Bool.{eqb-true}
 use Rattle.c_lang.specs.Names.{Bytes}
-use Rattle.c_lexer.specs.Pieces.{has_close}
-use Rattle.c_lexer.specs.Reading.{closing}
+use Rattle.c_grammar.specs.Pieces.{has_close}
+use Rattle.c_lexer.specs.Code.Reading.{closing}
 use Rattle.c_lexer.proofs.Cases.{chosen, and_both, and_false, or_false}
 
 pub open_is : (n : ℕ) (z : Bytes) → closing n z ≡ None → has_close z ≡ false

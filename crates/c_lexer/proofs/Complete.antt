@@ -5,18 +5,18 @@ use Rattle.std.specs.List.{list_all}
 use Rattle.std.proofs.lemmas.List.{take_at, drop_at, length-append}
 use Rattle.c_lang.specs.Names.{Bytes, is_digit, is_letter, is_word}
 use Rattle.c_lang.specs.declared.unit.Unit.{Unit}
-use Rattle.c_lexer.specs.Bytes.{is_white, is_in_line, is_in_word, is_in_number, IsRun}
-use Rattle.c_lexer.specs.Words.{keyword_number, is_refused}
-use Rattle.c_lexer.specs.Punctuators.{punctuator_number, IsLongest}
-use Rattle.c_lexer.specs.Pieces.{begins_comment, IsNumber, IsPiece, white, block_comment, line_comment, include_line, position_line, number, keyword, identifier, punctuator}
-use Rattle.c_lexer.specs.Lexed.{Cuts, ends, goes, behind, tokens_of}
-use Rattle.c_lexer.specs.Reading as spec
-use Rattle.c_lexer.specs.Reading.{closing, piece_at, Outcome, kept, with_front, reading_from}
-use Rattle.c_lexer.specs.declared.token.Token.{Token}
-use Rattle.c_lexer.specs.declared.token.Word.TheVariants as w
-use Rattle.c_lexer.specs.declared.piece.Piece.{Piece}
-use Rattle.c_lexer.specs.declared.piece.Piece.TheVariants as piece
-use Rattle.c_lexer.specs.declared.lexer.Place.{Place}
+use Rattle.c_grammar.specs.Bytes.{is_white, is_in_line, is_in_word, is_in_number, IsRun}
+use Rattle.c_grammar.specs.Words.{keyword_number, is_refused}
+use Rattle.c_grammar.specs.Punctuators.{punctuator_number, IsLongest}
+use Rattle.c_grammar.specs.Pieces.{begins_comment, IsNumber, IsPiece, white, block_comment, line_comment, include_line, position_line, number, keyword, identifier, punctuator}
+use Rattle.c_grammar.specs.Lexed.{Cuts, ends, goes, behind, tokens_of}
+use Rattle.c_lexer.specs.Code.Reading as spec
+use Rattle.c_lexer.specs.Code.Reading.{closing, piece_at, Outcome, kept, with_front, reading_from}
+use Rattle.c_grammar.specs.declared.token.Token.{Token}
+use Rattle.c_grammar.specs.declared.token.Word.TheVariants as w
+use Rattle.c_grammar.specs.declared.piece.Piece.{Piece}
+use Rattle.c_grammar.specs.declared.piece.Piece.TheVariants as piece
+use Rattle.c_grammar.specs.declared.piece.Place.{Place}
 use Rattle.c_lexer.proofs.Cases.{and_both, or_false, not_true}
 use Rattle.c_lexer.proofs.Runs.{run_again, first_of_text, first_all, digit_not_white, letter_not_white, letter_not_digit}
 use Rattle.c_lexer.proofs.Numbers.{number_again}

@@ -5,13 +5,13 @@ use Rattle.std.specs.List.{prefix_len, starts_with}
 use Rattle.std.proofs.lemmas.List.{take_at, drop_at, take-append-drop}
 use Rattle.std.proofs.lemmas.Bool.Decides.{nat_tests}
 use Rattle.c_lang.specs.Names.{Bytes, is_digit}
-use Rattle.c_lang.specs.Layout.{HasPrograms}
+use Rattle.c_lang.specs.Units.{HasPrograms}
 use Rattle.c_lang.specs.declared.unit.Unit.{Unit}
 use Rattle.c_lang.specs.declared.unit.Unit.TheVariants as unit
 use Rattle.c_lang.specs.declared.unit.Pos.{Pos}
-use Rattle.c_lexer.specs.Bytes.{is_space, is_blank, is_in_word, IsEnd}
-use Rattle.c_lexer.specs.Pieces.{IsNumber, IsInclude, IsGap, quoted, SetsPosition}
-use Rattle.c_lexer.specs.Reading.{begins_include, is_include, behind_spaces, quoted_unit, unit_by, position_by, number_of, numbered, numbered_by, position_of, position_in}
+use Rattle.c_grammar.specs.Bytes.{is_space, is_blank, is_in_word, IsEnd}
+use Rattle.c_grammar.specs.Pieces.{IsNumber, IsInclude, IsGap, quoted, SetsPosition}
+use Rattle.c_lexer.specs.Code.Reading.{begins_include, is_include, behind_spaces, quoted_unit, unit_by, position_by, number_of, numbered, numbered_by, position_of, position_in}
 use Rattle.c_lexer.proofs.Cases.{chosen, and_both, not_true, same_bytes}
 use Rattle.c_lexer.proofs.Runs.{run_again, run_is, run_length, first_all, ends_before}
 use Rattle.c_lexer.proofs.Numbers.{number_again, number_is, number_some}

@@ -10,7 +10,7 @@ use Rattle.std.proofs.lemmas.Bool.{eqb-true, cases_lt}
 use Rattle.std.proofs.lemmas.Slice.Eq.{bytes_eq-Decides}
 use Rattle.std.proofs.lemmas.Map.Text.{is_eq-slice_cmp}
 use Rattle.c_lang.specs.Names.{Bytes}
-use Rattle.c_lexer.specs.Words.{keywords, keyword_number}
+use Rattle.c_grammar.specs.Words.{keywords, keyword_number}
 use Rattle.c_lexer.specs.declared.words.TheConstants.{KEYWORDS}
 use Rattle.c_lexer.proofs.Cases.{and_both, same_bytes}
 

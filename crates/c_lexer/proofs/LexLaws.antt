@@ -4,16 +4,16 @@ use Rattle.std.specs.Global.{Vec}
 use Rattle.std.specs.Prelude.{MatchResult, IfOk, ◌⊎◌}
 use Rattle.std.proofs.lemmas.Bool.{cases_lt}
 use Rattle.c_lang.specs.Names.{Bytes}
-use Rattle.c_lang.specs.Units.{size_limit}
-use Rattle.c_lang.specs.Sources.{at}
+use Rattle.c_lang.specs.Limits.{size_limit}
+use Rattle.c_lang.specs.Units.{at}
 use Rattle.c_lang.specs.declared.unit.Unit.{Unit}
 use Rattle.c_lang.specs.declared.refusal.Fail.{Fail}
 use Rattle.c_lang.specs.declared.refusal.Fail.TheVariants as fail
 use Rattle.c_lang.specs.declared.refusal.Refusal.{Refusal}
-use Rattle.c_lexer.specs.Pieces.{fault_number}
-use Rattle.c_lexer.specs.Lexed.{Lexed, first_place, refusal, Refused, too_long, has_fault, IsRefusedAs, AreSpans}
-use Rattle.c_lexer.specs.Reading.{Outcome, Fails, reading}
-use Rattle.c_lexer.specs.declared.token.Token.{Token}
+use Rattle.c_grammar.specs.Pieces.{fault_number}
+use Rattle.c_grammar.specs.Lexed.{Lexed, first_place, refusal, Refused, too_long, has_fault, IsRefusedAs, AreSpans}
+use Rattle.c_lexer.specs.Code.Reading.{Outcome, Fails, reading}
+use Rattle.c_grammar.specs.declared.token.Token.{Token}
 use Rattle.c_lexer.proofs.Turns.{ok_is}
 use Rattle.c_lexer.proofs.Complete.{cuts_again}
 use Rattle.c_lexer.proofs.Sound.{Means, means, stops_again}

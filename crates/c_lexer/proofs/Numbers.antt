@@ -5,8 +5,8 @@ use Rattle.std.specs.List.{list_all}
 use Rattle.std.proofs.lemmas.Bool.{le-leb, leb-true}
 use Rattle.std.proofs.lemmas.Bool.Decides.{nat_tests}
 use Rattle.c_lang.specs.Names.{Bytes, is_digit}
-use Rattle.c_lexer.specs.Pieces.{value, IsNumber}
-use Rattle.c_lexer.specs.Reading.{value_from, has_leading_zero, number_of}
+use Rattle.c_grammar.specs.Pieces.{value, IsNumber}
+use Rattle.c_lexer.specs.Code.Reading.{value_from, has_leading_zero, number_of}
 use Rattle.c_lexer.proofs.Cases.{chosen, and_both}
 
 value_grows : (n : ℕ) (bytes : Bytes) → n ≤ value n bytes

@@ -4,9 +4,9 @@ use Rattle.std.specs.Prelude.{bytes_eq, slice_index}
 use Rattle.std.specs.List.{position_from, list_all}
 use Rattle.std.proofs.lemmas.Bool.{leb-true}
 use Rattle.c_lang.specs.Names.{Bytes, is_digit, is_letter}
-use Rattle.c_lexer.specs.Bytes.{is_white}
-use Rattle.c_lexer.specs.Punctuators.{punctuators, punctuator_number}
-use Rattle.c_lexer.specs.Reading.{pair}
+use Rattle.c_grammar.specs.Bytes.{is_white}
+use Rattle.c_grammar.specs.Punctuators.{punctuators, punctuator_number}
+use Rattle.c_lexer.specs.Code.Reading.{pair}
 use Rattle.c_lexer.proofs.Cases.{chosen, and_both, and_false, and_true, same_bytes}
 
 -- what all entries of a table have, a text has that is found in it

@@ -6,7 +6,7 @@ use Rattle.std.proofs.lemmas.List.{length-take}
 use Rattle.std.proofs.lemmas.List.Sums.{prefix_len-le-length}
 use Rattle.std.proofs.lemmas.Bool.Decides.{nat_tests}
 use Rattle.c_lang.specs.Names.{Bytes, is_digit, is_letter}
-use Rattle.c_lexer.specs.Bytes.{is_white, is_in_word, is_in_number, IsEnd, IsRun}
+use Rattle.c_grammar.specs.Bytes.{is_white, is_in_word, is_in_number, IsEnd, IsRun}
 use Rattle.c_lexer.proofs.Cases.{and_both, by_test}
 
 pub run_again : (class : ℕ → Bool) (text rest : Bytes) → IsRun class text rest → prefix_len class (text ++ rest) ≡ length text

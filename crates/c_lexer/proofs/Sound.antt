@@ -10,20 +10,20 @@ use Rattle.c_lang.specs.Names.{Bytes, is_digit, is_letter, is_word}
 use Rattle.c_lang.specs.declared.unit.Unit.{Unit}
 use Rattle.c_lang.specs.declared.unit.Pos.{Pos}
 use Rattle.c_lang.specs.declared.refusal.Refusal.{Refusal}
-use Rattle.c_lexer.specs.Bytes.{is_white, is_in_line, is_in_word, is_in_number, IsRun}
-use Rattle.c_lexer.specs.Words.{keyword_number, is_refused}
-use Rattle.c_lexer.specs.Punctuators.{punctuator_number, IsLongest}
-use Rattle.c_lexer.specs.Pieces as text
-use Rattle.c_lexer.specs.Pieces.{has_close, begins_comment, IsNumber, IsInclude, SetsPosition, IsPiece, IsFault, fault_number}
-use Rattle.c_lexer.specs.Lexed as whole
-use Rattle.c_lexer.specs.Lexed.{behind, tokens_of, Cuts, Stops, refusal}
-use Rattle.c_lexer.specs.Reading as spec
-use Rattle.c_lexer.specs.Reading.{Cut, closing, piece_at, Outcome, with_front, reading_from}
-use Rattle.c_lexer.specs.declared.piece.Fault.{Fault}
-use Rattle.c_lexer.specs.declared.piece.Fault.TheVariants as fault
-use Rattle.c_lexer.specs.declared.piece.Piece.{Piece}
-use Rattle.c_lexer.specs.declared.piece.Piece.TheVariants as piece
-use Rattle.c_lexer.specs.declared.lexer.Place.{Place}
+use Rattle.c_grammar.specs.Bytes.{is_white, is_in_line, is_in_word, is_in_number, IsRun}
+use Rattle.c_grammar.specs.Words.{keyword_number, is_refused}
+use Rattle.c_grammar.specs.Punctuators.{punctuator_number, IsLongest}
+use Rattle.c_grammar.specs.Pieces as text
+use Rattle.c_grammar.specs.Pieces.{has_close, begins_comment, IsNumber, IsInclude, SetsPosition, IsPiece, IsFault, fault_number}
+use Rattle.c_grammar.specs.Lexed as whole
+use Rattle.c_grammar.specs.Lexed.{behind, tokens_of, Cuts, Stops, refusal}
+use Rattle.c_lexer.specs.Code.Reading as spec
+use Rattle.c_lexer.specs.Code.Reading.{Cut, closing, piece_at, Outcome, with_front, reading_from}
+use Rattle.c_grammar.specs.declared.piece.Fault.{Fault}
+use Rattle.c_grammar.specs.declared.piece.Fault.TheVariants as fault
+use Rattle.c_grammar.specs.declared.piece.Piece.{Piece}
+use Rattle.c_grammar.specs.declared.piece.Piece.TheVariants as piece
+use Rattle.c_grammar.specs.declared.piece.Place.{Place}
 use Rattle.c_lexer.proofs.Cases.{by_test, by_option, and_both, or_false, not_true, not_false}
 use Rattle.c_lexer.proofs.Runs.{run_again, run_is, run_length, run_some, first_taken, first_of_text, letter_in_word, digit_in_number}
 use Rattle.c_lexer.proofs.Numbers.{number_again, number_is}

@@ -4,14 +4,14 @@ use Rattle.std.specs.Prelude.{⊤, slice_range}
 use Rattle.std.proofs.lemmas.List.{take_at, drop_at, length-append}
 use Rattle.c_lang.specs.Names.{Bytes}
 use Rattle.c_lang.specs.declared.unit.Unit.{Unit}
-use Rattle.c_lexer.specs.Pieces as text
-use Rattle.c_lexer.specs.Pieces.{IsPiece}
-use Rattle.c_lexer.specs.Lexed as whole
-use Rattle.c_lexer.specs.Lexed.{after_byte, after_bytes, turned, behind, token, tokens_of, Cuts, Says, AreSpans}
-use Rattle.c_lexer.specs.declared.token.Token.{Token}
-use Rattle.c_lexer.specs.declared.piece.Piece.{Piece}
-use Rattle.c_lexer.specs.declared.piece.Piece.TheVariants as piece
-use Rattle.c_lexer.specs.declared.lexer.Place.{Place}
+use Rattle.c_grammar.specs.Pieces as text
+use Rattle.c_grammar.specs.Pieces.{IsPiece}
+use Rattle.c_grammar.specs.Lexed as whole
+use Rattle.c_grammar.specs.Lexed.{after_byte, after_bytes, turned, behind, token, tokens_of, Cuts, Says, AreSpans}
+use Rattle.c_grammar.specs.declared.token.Token.{Token}
+use Rattle.c_grammar.specs.declared.piece.Piece.{Piece}
+use Rattle.c_grammar.specs.declared.piece.Piece.TheVariants as piece
+use Rattle.c_grammar.specs.declared.piece.Place.{Place}
 use Rattle.c_lexer.proofs.Complete.{piece_some}
 
 after_bytes_offset : (p : Place) (bytes : Bytes) → (after_bytes p bytes).offset ≡ p.offset + length bytes

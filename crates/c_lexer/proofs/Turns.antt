@@ -4,10 +4,10 @@ use Rattle.c_lang.specs.Names.{Bytes}
 use Rattle.c_lang.specs.declared.unit.Unit.{Unit}
 use Rattle.c_lang.specs.declared.refusal.Fail.{Fail}
 use Rattle.c_lang.specs.declared.refusal.Fail.TheVariants as fail
-use Rattle.c_lexer.specs.declared.token.Token.{Token}
-use Rattle.c_lexer.specs.declared.lexer.Place.{Place}
-use Rattle.c_lexer.specs.Lexed.{after_byte, after_bytes, turned}
-use Rattle.c_lexer.specs.Reading.{Cut, piece_at, Outcome, Fails, kept, with_front, joined, reading_from}
+use Rattle.c_grammar.specs.declared.token.Token.{Token}
+use Rattle.c_grammar.specs.declared.piece.Place.{Place}
+use Rattle.c_grammar.specs.Lexed.{after_byte, after_bytes, turned}
+use Rattle.c_lexer.specs.Code.Reading.{Cut, piece_at, Outcome, Fails, kept, with_front, joined, reading_from}
 
 -- the bytes of a piece are passed
 pub passes : (u : Unit) (left : ℕ) (p : Place) (z : Bytes) → reading_from u left p z ≡ reading_from u 0 (after_bytes p (take left z)) (drop left z)

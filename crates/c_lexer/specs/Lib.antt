@@ -1,6 +1,1 @@
-pub mod Bytes
-pub mod Words
-pub mod Punctuators
-pub mod Pieces
-pub mod Lexed
-pub mod Reading
+pub mod Code

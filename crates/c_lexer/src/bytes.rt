@@ -3,8 +3,8 @@
 ghost use Rattle.std.specs.Prelude.{◌≡◌, ◌≢◌, ◌<◌, ◌≤◌, length, slice_index, bytes_eq};
 ghost use Rattle.std.specs.List.{prefix_len};
 ghost use Rattle.c_lang.specs.Names.{is_digit as digit, is_letter as letter};
-ghost use Rattle.c_lexer.specs.Reading.{is_in as in_class};
-ghost use Rattle.c_lexer.specs.Bytes.{is_white as white};
+ghost use Rattle.c_lexer.specs.Code.Reading.{is_in as in_class};
+ghost use Rattle.c_grammar.specs.Bytes.{is_white as white};
 
 #[derive(Clone, Copy)]
 pub enum Class {

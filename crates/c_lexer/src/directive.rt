@@ -2,8 +2,8 @@
 
 ghost use Rattle.std.specs.Prelude.{◌≡◌, ◌<◌, ◌≤◌, length, slice_index, IfSome, MatchOption, None, Some};
 ghost use Rattle.std.specs.List.{prefix_len};
-ghost use Rattle.c_lexer.specs.Reading as spec;
-ghost use Rattle.c_lexer.specs.Reading.{Fits, IsWithin};
+ghost use Rattle.c_lexer.specs.Code.Reading as spec;
+ghost use Rattle.c_lexer.specs.Code.Reading.{Fits, IsWithin};
 
 use crate::bytes::{Class, byte_at, is_in, is_same, run_of};
 use crate::piece::{Fault, Piece, number_of};
@@ -33,7 +33,7 @@ fn behind_spaces(text: &[u8]) -> Option<&[u8]>
 }
 
 /// The unit whose word stands here in quotes.
-#[tactic(auto, unfolding(crate::specs::Reading::quoted_unit))]
+#[tactic(auto, unfolding(crate::specs::Code::Reading::quoted_unit))]
 fn quoted_unit(text: &[u8]) -> Option<Unit>
     ensures { result ≡ spec.quoted_unit text.now }
 {
@@ -53,7 +53,7 @@ fn quoted_unit(text: &[u8]) -> Option<Unit>
 }
 
 /// A number, spaces and a unit, as they stand behind `#line` and its spaces.
-#[tactic(auto, unfolding(crate::specs::Reading::numbered))]
+#[tactic(auto, unfolding(crate::specs::Code::Reading::numbered))]
 fn numbered(text: &[u8]) -> Option<Pos>
     ensures value { result ≡ spec.numbered text.now }
     ensures fits { IfSome result (λ pos. (1 ≤ pos.line) × (pos.line ≤ 2147483647)) }
@@ -68,7 +68,7 @@ fn numbered(text: &[u8]) -> Option<Pos>
 }
 
 /// The position that a line from its `#` on gives to the next, if it is a `#line` directive.
-#[tactic(auto, unfolding(crate::specs::Reading::position_of))]
+#[tactic(auto, unfolding(crate::specs::Code::Reading::position_of))]
 fn position_of(line: &[u8]) -> Option<Pos>
     ensures value { result ≡ spec.position_of line.now }
     ensures fits { IfSome result (λ pos. (1 ≤ pos.line) × (pos.line ≤ 2147483647)) }

@@ -2,13 +2,13 @@
 
 ghost use Rattle.std.specs.Prelude.{◌⊎◌, ◌≡◌, ◌≢◌, ◌<◌, ◌≤◌, ◌+◌, ◌^◌, ℕ, List, max, length, Ok, IfOk, OnOk, IfErr, MatchResult};
 ghost use Rattle.c_lang.specs.Names.{Bytes};
-ghost use Rattle.c_lang.specs.Units.{size_limit};
+ghost use Rattle.c_lang.specs.Limits.{size_limit};
 ghost use Rattle.c_lang.specs.declared.refusal.Refusal.{Refusal};
-ghost use Rattle.c_lexer.specs.declared.token.Token.{Token};
-ghost use Rattle.c_lexer.specs.Lexed as text;
-ghost use Rattle.c_lexer.specs.Lexed.{AreSpans, IsRefusedAs, Lexed, Refused, refusal};
-ghost use Rattle.c_lexer.specs.Reading as spec;
-ghost use Rattle.c_lexer.specs.Reading.{Fits};
+ghost use Rattle.c_grammar.specs.declared.token.Token.{Token};
+ghost use Rattle.c_grammar.specs.Lexed as text;
+ghost use Rattle.c_grammar.specs.Lexed.{AreSpans, IsRefusedAs, Lexed, Refused, refusal};
+ghost use Rattle.c_lexer.specs.Code.Reading as spec;
+ghost use Rattle.c_lexer.specs.Code.Reading.{Fits};
 
 use crate::piece::{Piece, piece_at};
 use crate::token::Token;

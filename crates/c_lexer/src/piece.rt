@@ -3,10 +3,10 @@
 ghost use Rattle.std.specs.Prelude.{◌≡◌, ◌<◌, ◌≤◌, ◌+◌, ◌^◌, length, slice_index, take, IfOk, IfSome, true};
 ghost use Rattle.std.specs.List.{prefix_len};
 ghost use Rattle.c_lang.specs.Names.{is_digit as digit, is_letter as letter};
-ghost use Rattle.c_lexer.specs.Punctuators.{punctuator_number};
-ghost use Rattle.c_lexer.specs.Pieces as pieces;
-ghost use Rattle.c_lexer.specs.Reading as spec;
-ghost use Rattle.c_lexer.specs.Reading.{Fits, IsWithin};
+ghost use Rattle.c_grammar.specs.Punctuators.{punctuator_number};
+ghost use Rattle.c_grammar.specs.Pieces as pieces;
+ghost use Rattle.c_lexer.specs.Code.Reading as spec;
+ghost use Rattle.c_lexer.specs.Code.Reading.{Fits, IsWithin};
 
 use crate::bytes::{Class, byte_at, is_digit, is_in, is_letter, is_white, run_of};
 use crate::directive::directive;
@@ -159,7 +159,7 @@ fn comment(text: &[u8]) -> (Piece, usize)
 }
 
 /// The number of a punctuator of one byte.
-#[tactic(auto, unfolding(crate::specs::Punctuators::punctuator_number))]
+#[tactic(auto, unfolding(c_grammar::specs::Punctuators::punctuator_number))]
 fn single(byte: u8) -> Option<u8>
     ensures { result ≡ spec.single byte }
 {
@@ -186,7 +186,7 @@ fn single(byte: u8) -> Option<u8>
 }
 
 /// The number of a punctuator of two bytes.
-#[tactic(auto, unfolding(crate::specs::Reading::pair))]
+#[tactic(auto, unfolding(crate::specs::Code::Reading::pair))]
 fn pair(byte: u8, next: u8) -> Option<u8>
     ensures { result ≡ spec.pair byte next }
 {
@@ -221,7 +221,7 @@ fn punctuator(text: &[u8]) -> (Piece, usize)
 
 /// The piece at the front of a text that isn't empty, and its length. `fresh` where only spaces
 /// and tabs stand before it on its line.
-#[tactic(auto, unfolding(crate::specs::Reading::piece_at))]
+#[tactic(auto, unfolding(crate::specs::Code::Reading::piece_at))]
 pub fn piece_at(
     alloc: Global,
     unit: Unit,

@@ -3,7 +3,7 @@
 ghost use Rattle.std.specs.Prelude.{◌≡◌, ◌<◌, [], map, length, get_or};
 ghost use Rattle.std.specs.Ordering.{nat_cmp};
 ghost use Rattle.std.specs.Cmp.Lexicographic.{slice_cmp};
-ghost use Rattle.c_lexer.specs.Words as spec;
+ghost use Rattle.c_grammar.specs.Words as spec;
 
 use crate::bytes::is_same;
 use c_lang::Unit;
@@ -95,7 +95,7 @@ pub fn keyword_number(word: &[u8]) -> Option<u8>
     None
 }
 
-#[tactic(auto, unfolding(crate::specs::Words::is_allowed))]
+#[tactic(auto, unfolding(c_grammar::specs::Words::is_allowed))]
 fn is_allowed(unit: Unit, word: &[u8]) -> bool
     ensures { result ≡ spec.is_allowed unit word.now }
 {
@@ -108,15 +108,15 @@ fn is_allowed(unit: Unit, word: &[u8]) -> bool
                 || is_same(word, b"dsu_updated")
         }
         Unit::Xform => {
-            is_same(word, b"dsu_update") || is_same(word, b"dsu_transform") || names_version(word)
+            is_same(word, b"dsu_update") || is_same(word, b"dsu_transform") || is_version_name(word)
         }
         Unit::Hints | Unit::Certs => false,
     }
 }
 
 /// Whether the word begins with `dsu_old_` or `dsu_new_` and goes on.
-fn names_version(word: &[u8]) -> bool
-    ensures { result ≡ spec.names_version word.now }
+fn is_version_name(word: &[u8]) -> bool
+    ensures { result ≡ spec.is_version_name word.now }
 {
     word.len() > 8 && (word.starts_with(b"dsu_old_") || word.starts_with(b"dsu_new_"))
 }

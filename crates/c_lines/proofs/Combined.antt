@@ -2,7 +2,7 @@
 -- are put together from exact ones are exact.
 use Rattle.std.proofs.Common.{◌≡◌, Bool, true, cond, ◌++◌, Option, Some, None, refl, sym, ap, subst, ◌∙◌, append_assoc, inl, inr}
 use Rattle.c_lang.specs.Names.{Bytes}
-use Rattle.c_lines.specs.Readers.{Reader, ◌>>=◌, behind, after, before, pair, mapped, tested}
+use Rattle.c_lines.specs.Code.Readers.{Reader, ◌>>=◌, behind, after, before, pair, mapped, tested}
 use Rattle.c_lines.proofs.Texts.{bind_some, some_is, chosen, behind_same, behind_is, behind_both}
 
 pub record Exact {A : Type 0} (read : Reader A) (text : A → Bytes) (Fits : A → Type 0) : Type 0 where

@@ -4,10 +4,10 @@ use Rattle.std.specs.Prelude.{codes}
 use Rattle.std.proofs.lemmas.Bool.{le-leb, leb-true}
 use Rattle.std.proofs.lemmas.List.{length-append, length-map}
 use Rattle.c_lang.specs.Names.{Bytes}
-use Rattle.c_lang.specs.Sources.{Source, Setter, IsSource, IsSetter, set_line, action_line, include_lines, source_lines, setter_lines, setter_program}
-use Rattle.c_lang.specs.Lines.{IsSourceText}
-use Rattle.c_lines.specs.SourceReading.{source, setter}
-use Rattle.c_lines.specs.Reading.{is_counted, is_counted_setter, counted, counted_setter}
+use Rattle.c_lines.specs.Sources.{Source, Setter, IsSource, IsSetter, set_line, action_line, include_lines, source_lines, setter_lines, setter_program}
+use Rattle.c_lines.specs.Lines.{IsSourceText}
+use Rattle.c_lines.specs.Code.SourceReading.{source, setter}
+use Rattle.c_lines.specs.Code.Reading.{is_counted, is_counted_setter, counted, counted_setter}
 use Rattle.c_lines.proofs.Texts.{bind_some, some_is, chosen}
 use Rattle.c_lines.proofs.SourceIs.{front, closes, closed, source_text, source_again, source_is, setter_front, setter_text, setter_again, setter_is}
 

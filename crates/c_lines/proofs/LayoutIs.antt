@@ -5,13 +5,14 @@ use Rattle.std.specs.List.{flat_map}
 use Rattle.std.specs.Fmt.{decimal}
 use Rattle.std.proofs.lemmas.List.{length-append}
 use Rattle.c_lang.specs.Names.{Bytes}
-use Rattle.c_lang.specs.Sources.{FitsNumber, set_line, show_line}
-use Rattle.c_lang.specs.Layout as layout
-use Rattle.c_lang.specs.Layout.{Piece, shows, sets, skips, asks, both_name, IsPosition, IsPiece, ArePositionsOfExpansion}
+use Rattle.c_lang.specs.Units.{FitsNumber, IsPosition}
+use Rattle.c_lines.specs.Sources.{set_line, show_line}
+use Rattle.c_lines.specs.Layout as layout
+use Rattle.c_lines.specs.Layout.{Piece, shows, sets, skips, asks, both_name, IsPiece, ArePositionsOfExpansion}
 use Rattle.c_lang.specs.declared.unit.Pos.{Pos}
-use Rattle.c_lines.specs.Readers.{◌>>=◌, after, behind, position, ended, many_before}
-use Rattle.c_lines.specs.SourceReading.{show, setting}
-use Rattle.c_lines.specs.LayoutReading.{expansion_of, expansion_parts, form, piece, last_of_version, main_of, version, placed_setting, closing, transform_of, transform}
+use Rattle.c_lines.specs.Code.Readers.{◌>>=◌, after, behind, position, ended, many_before}
+use Rattle.c_lines.specs.Code.SourceReading.{show, setting}
+use Rattle.c_lines.specs.Code.LayoutReading.{expansion_of, expansion_parts, form, piece, last_of_version, main_of, version, placed_setting, closing, transform_of, transform}
 use Rattle.c_lines.proofs.Texts.{bind_some, behind_same, behind_is}
 use Rattle.c_lines.proofs.Combined.{Exact, exact_behind, exact_after, exact_before, exact_pair, exact_mapped, some_pair}
 use Rattle.c_lines.proofs.Many.{exact_many, shorter}

@@ -1,19 +1,17 @@
 -- Reading the layout of a merged text gives its parts, and nothing else.
 use Rattle.std.proofs.Common.{◌≡◌, ℕ, Bool, true, false, cond, eqb, [], ◌∷◌, ◌++◌, Option, Some, refl, sym, ap, subst, ◌∙◌, append_assoc}
-use Rattle.std.specs.Prelude.{codes, nat_le}
+use Rattle.std.specs.Prelude.{codes, nat_le, slice_index}
 use Rattle.std.proofs.lemmas.Bool.{le-leb, leb-true}
 use Rattle.c_lang.specs.Names.{Bytes}
-use Rattle.c_lang.specs.Units.{word}
-use Rattle.c_lang.specs.Sources.{FitsNumber}
-use Rattle.c_lang.specs.Layout.{HasPrograms, IsPosition, position_line}
+use Rattle.c_lang.specs.Units.{word, FitsNumber, HasPrograms, IsPosition}
+use Rattle.c_lines.specs.Layout.{position_line}
 use Rattle.c_lang.specs.declared.unit.Unit.{Unit}
 use Rattle.c_lang.specs.declared.unit.Unit.TheVariants as unit
 use Rattle.c_lang.specs.declared.unit.Pos.{Pos}
-use Rattle.c_lines.specs.Readers.{Reader, ◌>>=◌, unit_by, unit_word, pos_of, position, placed, behind, ended}
+use Rattle.c_lines.specs.Code.Readers.{Reader, ◌>>=◌, unit_by, unit_word, pos_of, position, placed, behind, ended}
 use Rattle.c_lines.proofs.Texts.{bind_some, some_is, behind_is}
 use Rattle.c_lines.proofs.Combined.{Exact, exact_behind, exact_after, exact_before, exact_pair, exact_mapped, exact_tested, exact_as, some_pair}
 use Rattle.c_lines.proofs.Tokens.{exact_number}
-use Rattle.std.specs.Prelude.{slice_index}
 
 -- ---- positions
 

@@ -2,9 +2,9 @@
 use Rattle.std.proofs.Common.{◌≡◌, [], ◌∷◌, Some, None, refl, ap, subst, ◌∙◌}
 use Rattle.std.specs.Prelude.{Option, codes}
 use Rattle.c_lang.specs.Names.{Bytes}
-use Rattle.c_lang.specs.Layout as layout
-use Rattle.c_lines.specs.Readers.{◌>>=◌, ended}
-use Rattle.c_lines.specs.LayoutReading.{version, wrapper, transform, start, whole, ending, Globals, opening, name_in, versions, layout_of, parts, read}
+use Rattle.c_lines.specs.Layout as layout
+use Rattle.c_lines.specs.Code.Readers.{◌>>=◌, ended}
+use Rattle.c_lines.specs.Code.LayoutReading.{version, wrapper, transform, start, whole, ending, Globals, opening, name_in, versions, layout_of, parts, read}
 
 abbrev Rest : Type 0
 Rest = layout.Main × (layout.Main × (layout.Wrapper × (layout.Transform × layout.Start)))

@@ -7,13 +7,14 @@ use Rattle.std.proofs.lemmas.List.{append-nil}
 use Rattle.std.proofs.lemmas.Fmt.{decimal_digit}
 use Rattle.std.proofs.lemmas.Grind.{flat_map-append}
 use Rattle.c_lang.specs.Names.{Bytes}
-use Rattle.c_lang.specs.Sources.{set_line, show_line, global_line}
-use Rattle.c_lang.specs.Layout as layout
-use Rattle.c_lang.specs.Layout.{Layout, IsLayout, Piece, both_name, IsPosition, main_lines, prototype_lines, global_lines, wrapper_lines, transform_lines, start_lines, layout_lines, piece_lines}
-use Rattle.c_lang.specs.Lines.{text_of}
+use Rattle.c_lines.specs.Sources.{set_line, show_line, global_line}
+use Rattle.c_lines.specs.Layout as layout
+use Rattle.c_lines.specs.Layout.{Layout, IsLayout, Piece, both_name, main_lines, prototype_lines, global_lines, wrapper_lines, transform_lines, start_lines, layout_lines, piece_lines}
+use Rattle.c_lang.specs.Units.{IsPosition}
+use Rattle.c_lines.specs.Lines.{text_of}
 use Rattle.c_lang.specs.declared.unit.Pos.{Pos}
-use Rattle.c_lines.specs.Readers.{behind, ended}
-use Rattle.c_lines.specs.LayoutReading.{wrapper_of, wrapper, start_of, start, prototypes_of, prototypes, Globals, globals, opening, Parts, layout_of, parts, whole, read}
+use Rattle.c_lines.specs.Code.Readers.{behind, ended}
+use Rattle.c_lines.specs.Code.LayoutReading.{wrapper_of, wrapper, start_of, start, prototypes_of, prototypes, Globals, globals, opening, Parts, layout_of, parts, whole, read}
 use Rattle.c_lines.proofs.Texts.{bind_some, some_is}
 use Rattle.c_lines.proofs.Combined.{Exact, exact_behind, exact_after, exact_before, exact_pair, exact_mapped}
 use Rattle.c_lines.proofs.SourceIs.{FitsGlobal, exact_declared}

@@ -5,7 +5,7 @@ use Rattle.std.specs.List.{flat_map}
 use Rattle.std.proofs.lemmas.List.{append-nil, length-append, map-append}
 use Rattle.std.proofs.lemmas.List.Elements.{All-nil, All-cons}
 use Rattle.c_lang.specs.Names.{Bytes}
-use Rattle.c_lines.specs.Readers.{Reader, turn, many_by, many, many_before}
+use Rattle.c_lines.specs.Code.Readers.{Reader, turn, many_by, many, many_before}
 use Rattle.c_lines.proofs.Texts.{bind_some}
 use Rattle.c_lines.proofs.Combined.{Exact, some_pair}
 

@@ -3,14 +3,14 @@ use Rattle.std.proofs.Common.{◌≡◌, cond, Some, None, refl, sym, ap, subst,
 use Rattle.std.specs.Prelude.{count_by, nat_le}
 use Rattle.std.proofs.lemmas.Bool.{le-leb, leb-true}
 use Rattle.c_lang.specs.Names.{Bytes}
-use Rattle.c_lang.specs.Sources.{Source, Setter, is_point, source_program, setter_program}
-use Rattle.c_lang.specs.Layout.{layout_program}
-use Rattle.c_lang.specs.Lines.{AsksAsItMay, IsVersion, IsTransformer, Lines}
+use Rattle.c_lines.specs.Sources.{Source, Setter, is_point, source_program, setter_program}
+use Rattle.c_lines.specs.Layout.{layout_program}
+use Rattle.c_lines.specs.Lines.{AsksAsItMay, IsVersion, IsTransformer, Lines}
 use Rattle.c_lang.specs.declared.unit.Unit.{Unit}
 use Rattle.c_lang.specs.declared.unit.Unit.TheVariants as unit
 use Rattle.c_lang.specs.declared.program.Program.{Program}
-use Rattle.c_lines.specs.LayoutReading.{read}
-use Rattle.c_lines.specs.Reading.{counted, counted_setter, program}
+use Rattle.c_lines.specs.Code.LayoutReading.{read}
+use Rattle.c_lines.specs.Code.Reading.{counted, counted_setter, program}
 use Rattle.c_lines.proofs.Texts.{bind_some, some_is, chosen}
 use Rattle.c_lines.proofs.LayoutWhole.{layout_again, layout_is}
 use Rattle.c_lines.proofs.Counted.{counted_again, counted_is, counted_setter_again, counted_setter_is}

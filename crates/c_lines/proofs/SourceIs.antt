@@ -9,11 +9,12 @@ use Rattle.std.proofs.lemmas.List.Folds.{flat_map-map}
 use Rattle.std.proofs.lemmas.Grind.{flat_map-append}
 use Rattle.std.proofs.lemmas.Slice.Eq.{bytes_eq-Decides}
 use Rattle.c_lang.specs.Names.{Bytes}
-use Rattle.c_lang.specs.Sources.{FitsNumber, FitsAction, is_shared_name, Action, Source, Setter, IsSource, IsSetter, set_line, global_line, source_lines, setter_lines, setter_program}
-use Rattle.c_lang.specs.Sources as sources
-use Rattle.c_lang.specs.Lines.{text_of, IsSourceText}
-use Rattle.c_lines.specs.Readers.{behind, name, ended, is_in, many}
-use Rattle.c_lines.specs.SourceReading.{setting, action_line, declared, opening, included_by, included, is_close, source_of, source, settings_by, settings, setter}
+use Rattle.c_lang.specs.Units.{FitsNumber}
+use Rattle.c_lines.specs.Sources.{FitsAction, is_shared_name, Action, Source, Setter, IsSource, IsSetter, set_line, global_line, source_lines, setter_lines, setter_program}
+use Rattle.c_lines.specs.Sources as sources
+use Rattle.c_lines.specs.Lines.{text_of, IsSourceText}
+use Rattle.c_lines.specs.Code.Readers.{behind, name, ended, is_in, many}
+use Rattle.c_lines.specs.Code.SourceReading.{setting, action_line, declared, opening, included_by, included, is_close, source_of, source, settings_by, settings, setter}
 use Rattle.c_lines.specs.declared.text.Class.TheVariants as class
 use Rattle.c_lines.proofs.Texts.{bind_some, some_is, chosen, behind_same, behind_is}
 use Rattle.c_lines.proofs.Combined.{Exact, exact_behind, exact_after, exact_before, exact_pair, exact_as}

@@ -5,10 +5,11 @@ use Rattle.std.specs.Fmt.{decimal}
 use Rattle.std.proofs.lemmas.List.{length-append}
 use Rattle.std.proofs.lemmas.Bool.{eqb-true}
 use Rattle.c_lang.specs.Names.{Bytes}
-use Rattle.c_lang.specs.Sources.{FitsNumber, FitsAction, is_shared_name, Action, shows, asks, sets, set_line, show_line}
-use Rattle.c_lang.specs.Sources as sources
-use Rattle.c_lines.specs.Readers.{◌>>=◌, or_else, behind, ended, is_in}
-use Rattle.c_lines.specs.SourceReading.{show, setting, asking, action_line}
+use Rattle.c_lang.specs.Units.{FitsNumber}
+use Rattle.c_lines.specs.Sources.{FitsAction, is_shared_name, Action, shows, asks, sets, set_line, show_line}
+use Rattle.c_lines.specs.Sources as sources
+use Rattle.c_lines.specs.Code.Readers.{◌>>=◌, or_else, behind, ended, is_in}
+use Rattle.c_lines.specs.Code.SourceReading.{show, setting, asking, action_line}
 use Rattle.c_lines.specs.declared.text.Class.TheVariants as class
 use Rattle.c_lines.proofs.Texts.{bind_some, behind_same, behind_is}
 use Rattle.c_lines.proofs.Combined.{Exact, ExactText, exact_behind, exact_steps, exact_after, exact_as, some_pair}

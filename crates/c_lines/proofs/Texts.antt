@@ -3,7 +3,7 @@ use Rattle.std.proofs.Common.{◌≡◌, ℕ, ◌<◌, Bool, true, false, cond, 
 use Rattle.std.specs.Prelude.{◌⊎◌}
 use Rattle.std.proofs.lemmas.Bool.{eqb-true}
 use Rattle.c_lang.specs.Names.{Bytes}
-use Rattle.c_lines.specs.Readers.{◌>>=◌, behind}
+use Rattle.c_lines.specs.Code.Readers.{◌>>=◌, behind}
 
 pub too_short : (text bytes : Bytes) → length bytes < 1 → 0 < length text → behind text bytes ≡ None
 unfolding behind

@@ -10,8 +10,9 @@ use Rattle.std.proofs.Math.Seq.{take-append_seam, drop-append_seam}
 use Rattle.std.proofs.lemmas.Bool.{le-leb, leb-true}
 use Rattle.std.proofs.lemmas.Bool.Decides.{nat_tests}
 use Rattle.c_lang.specs.Names.{Bytes, is_digit, is_letter, is_word}
-use Rattle.c_lang.specs.Sources.{FitsNumber, is_shared_name}
-use Rattle.c_lines.specs.Readers.{◌>>=◌, is_in, value_from, is_numeral, value_of, number, name, before}
+use Rattle.c_lang.specs.Units.{FitsNumber}
+use Rattle.c_lines.specs.Sources.{is_shared_name}
+use Rattle.c_lines.specs.Code.Readers.{◌>>=◌, is_in, value_from, is_numeral, value_of, number, name, before}
 use Rattle.c_lines.specs.declared.text.Class.TheVariants as class
 use Rattle.c_lines.proofs.Texts.{bind_some, chosen, behind_same, behind_is}
 use Rattle.c_lines.proofs.Combined.{Exact, ExactText, some_pair}

@@ -1,5 +1,5 @@
-pub mod Readers
-pub mod LayoutReading
-pub mod SourceReading
-pub mod Reading
 pub mod Refusals
+pub mod Code
+pub mod Layout
+pub mod Lines
+pub mod Sources

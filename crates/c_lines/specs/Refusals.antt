@@ -1,7 +1,7 @@
 -- What the reader of the first form answers where it gives no program.
 use Rattle.std.specs.Prelude.{⊤, ◌≡◌, None}
 use Rattle.c_lang.specs.Names.{Bytes}
-use Rattle.c_lang.specs.Lines.{Lines}
+use Rattle.c_lines.specs.Lines.{Lines}
 use Rattle.c_lang.specs.declared.unit.Unit.{Unit}
 use Rattle.c_lang.specs.declared.program.Program.{Program}
 use Rattle.c_lang.specs.declared.refusal.Fail.{Fail}

@@ -1,8 +1,8 @@
 //! Parts that programs of the first form are built of.
 
 ghost use Rattle.std.specs.Prelude.{◌≡◌, ◌∷◌, [], IfOk};
-ghost use Rattle.c_lang.specs.Sources as sources;
-ghost use Rattle.c_lang.specs.Sources.{FitsNumber};
+ghost use Rattle.c_lines.specs.Sources as sources;
+ghost use Rattle.c_lang.specs.Units.{FitsNumber};
 ghost use Rattle.c_lang.specs.declared.stmt.Stmt.TheVariants as stmt;
 ghost use Rattle.c_lang.specs.declared.expr.Expr.TheVariants.{Var};
 

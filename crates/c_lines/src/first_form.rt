@@ -2,12 +2,12 @@
 //! and the merged texts of such sources.
 
 ghost use Rattle.std.specs.Prelude.{◌≡◌, ℕ, List, count_by, map, MatchResult};
-ghost use Rattle.c_lang.specs.Lines.{Lines};
-ghost use Rattle.c_lang.specs.Sources.{is_point};
+ghost use Rattle.c_lines.specs.Lines.{Lines};
+ghost use Rattle.c_lines.specs.Sources.{is_point};
 ghost use Rattle.c_lang.specs.declared.program.Program.{Program};
 ghost use Rattle.c_lang.specs.declared.unit.Unit.{Unit};
-ghost use Rattle.c_lines.specs.Reading as spec;
-ghost use Rattle.c_lines.specs.SourceReading.{Gives, action_of, setter_view, source_view};
+ghost use Rattle.c_lines.specs.Code.Reading as spec;
+ghost use Rattle.c_lines.specs.Code.SourceReading.{Gives, action_of, setter_view, source_view};
 ghost use Rattle.c_lines.specs.Refusals.{IsRefusedForm};
 
 use crate::layout::read_layout;

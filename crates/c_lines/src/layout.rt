@@ -1,9 +1,9 @@
 //! The layout of a merged text of the first form, as it is read line by line.
 
 ghost use Rattle.std.specs.Prelude.{◌≡◌, ◌++◌, length, map, None, Some, MatchOption, IfOk, codes, ⊤};
-ghost use Rattle.c_lines.specs.Readers.{many};
-ghost use Rattle.c_lines.specs.SourceReading.{Gives};
-ghost use Rattle.c_lines.specs.LayoutReading as spec;
+ghost use Rattle.c_lines.specs.Code.Readers.{many};
+ghost use Rattle.c_lines.specs.Code.SourceReading.{Gives};
+ghost use Rattle.c_lines.specs.Code.LayoutReading as spec;
 
 use crate::source::{declared, setting, show};
 use crate::stop::Stop;
@@ -91,7 +91,7 @@ pub struct Layout<'a> {
 }
 
 /// The lines of a point behind its first.
-#[tactic(auto, unfolding(crate::specs::LayoutReading::expansion_parts))]
+#[tactic(auto, unfolding(crate::specs::Code::LayoutReading::expansion_parts))]
 fn read_expansion(unless: Pos, bytes: &[u8]) -> Option<(Expansion, u32, &[u8])>
     ensures parts { MatchOption result (spec.expansion_parts bytes.now ≡ None) (λ x. spec.expansion_parts bytes.now ≡ Some ((x.0.choice, (x.1, (x.0.test, (x.0.flag, x.0.call)))), x.2.now)) }
     ensures unless { MatchOption result ⊤ (λ x. x.0.unless ≡ unless) }
@@ -115,7 +115,7 @@ fn read_expansion(unless: Pos, bytes: &[u8]) -> Option<(Expansion, u32, &[u8])>
 }
 
 /// A statement behind its position.
-#[tactic(auto, unfolding(crate::specs::LayoutReading::form))]
+#[tactic(auto, unfolding(crate::specs::Code::LayoutReading::form))]
 fn form<'a>(both: &[u8], pos: Pos, bytes: &'a [u8]) -> Option<(Piece, &'a [u8])>
     ensures { MatchOption result (spec.form both.now pos bytes.now ≡ None) (λ x. spec.form both.now pos bytes.now ≡ Some (spec.piece_view x.0, x.1.now)) }
 {
@@ -133,7 +133,7 @@ fn form<'a>(both: &[u8], pos: Pos, bytes: &'a [u8]) -> Option<(Piece, &'a [u8])>
     Some((Piece::Asks(expansion, k), rest))
 }
 
-#[tactic(auto, unfolding(crate::specs::LayoutReading::piece))]
+#[tactic(auto, unfolding(crate::specs::Code::LayoutReading::piece))]
 fn next_piece<'a>(both: &[u8], bytes: &'a [u8]) -> Option<(Piece, &'a [u8])>
     ensures { MatchOption result (spec.piece both.now bytes.now ≡ None) (λ x. spec.piece both.now bytes.now ≡ Some (spec.piece_view x.0, x.1.now)) }
 {
@@ -158,7 +158,7 @@ fn pieces<'a>(
     Ok((pieces, rest))
 }
 
-#[tactic(auto, unfolding(crate::specs::LayoutReading::last_of_version))]
+#[tactic(auto, unfolding(crate::specs::Code::LayoutReading::last_of_version))]
 fn last_of_version(bytes: &[u8]) -> Option<(Pos, &[u8])>
     ensures { MatchOption result (spec.last_of_version bytes.now ≡ None) (λ x. spec.last_of_version bytes.now ≡ Some (x.0, x.1.now)) }
 {
@@ -168,7 +168,7 @@ fn last_of_version(bytes: &[u8]) -> Option<(Pos, &[u8])>
 }
 
 /// The `main` of the version that this line begins.
-#[tactic(auto, unfolding(crate::specs::LayoutReading::version))]
+#[tactic(auto, unfolding(crate::specs::Code::LayoutReading::version))]
 fn version<'a>(
     alloc: Global,
     head: &[u8],
@@ -187,7 +187,7 @@ fn version<'a>(
     }
 }
 
-#[tactic(auto, unfolding(crate::specs::LayoutReading::placed_setting))]
+#[tactic(auto, unfolding(crate::specs::Code::LayoutReading::placed_setting))]
 fn placed_setting<'a>(both: &[u8], bytes: &'a [u8]) -> Option<((Pos, u32), &'a [u8])>
     ensures { MatchOption result (spec.placed_setting both.now bytes.now ≡ None) (λ x. spec.placed_setting both.now bytes.now ≡ Some (x.0, x.1.now)) }
 {
@@ -212,7 +212,7 @@ fn settings<'a>(
     Ok((settings, rest))
 }
 
-#[tactic(auto, unfolding(crate::specs::LayoutReading::transform, crate::specs::LayoutReading::closing))]
+#[tactic(auto, unfolding(crate::specs::Code::LayoutReading::transform, crate::specs::Code::LayoutReading::closing))]
 fn read_transform<'a>(
     alloc: Global,
     both: &[u8],
@@ -230,7 +230,7 @@ fn read_transform<'a>(
     }
 }
 
-#[tactic(auto, unfolding(crate::specs::LayoutReading::wrapper))]
+#[tactic(auto, unfolding(crate::specs::Code::LayoutReading::wrapper))]
 fn read_wrapper(bytes: &[u8]) -> Option<(Wrapper, &[u8])>
     ensures { MatchOption result (spec.wrapper bytes.now ≡ None) (λ x. spec.wrapper bytes.now ≡ Some (spec.wrapper_view x.0, x.1.now)) }
 {
@@ -253,7 +253,7 @@ fn read_wrapper(bytes: &[u8]) -> Option<(Wrapper, &[u8])>
     Some((wrapper, rest))
 }
 
-#[tactic(auto, unfolding(crate::specs::LayoutReading::start))]
+#[tactic(auto, unfolding(crate::specs::Code::LayoutReading::start))]
 fn read_start(bytes: &[u8]) -> Option<(Start, &[u8])>
     ensures { MatchOption result (spec.start bytes.now ≡ None) (λ x. spec.start bytes.now ≡ Some (spec.start_view x.0, x.1.now)) }
 {
@@ -265,7 +265,7 @@ fn read_start(bytes: &[u8]) -> Option<(Start, &[u8])>
 }
 
 /// `main`, behind which nothing stands.
-#[tactic(auto, unfolding(crate::specs::LayoutReading::ending))]
+#[tactic(auto, unfolding(crate::specs::Code::LayoutReading::ending))]
 fn read_ending(bytes: &[u8]) -> Option<Start>
     ensures { MatchOption result (spec.ending bytes.now ≡ None) (λ s. spec.ending bytes.now ≡ Some (spec.start_view s)) }
 {
@@ -276,7 +276,7 @@ fn read_ending(bytes: &[u8]) -> Option<Start>
     }
 }
 
-#[tactic(auto, unfolding(crate::specs::LayoutReading::prototypes))]
+#[tactic(auto, unfolding(crate::specs::Code::LayoutReading::prototypes))]
 fn read_prototypes(bytes: &[u8]) -> Option<(Prototypes, &[u8])>
     ensures { MatchOption result (spec.prototypes bytes.now ≡ None) (λ x. spec.prototypes bytes.now ≡ Some (spec.prototypes_view x.0, x.1.now)) }
 {
@@ -304,7 +304,7 @@ struct Globals<'a> {
     value: u32,
 }
 
-#[tactic(auto, unfolding(crate::specs::LayoutReading::globals))]
+#[tactic(auto, unfolding(crate::specs::Code::LayoutReading::globals))]
 fn read_globals(bytes: &[u8]) -> Option<(Globals<'_>, &[u8])>
     ensures { MatchOption result (spec.globals bytes.now ≡ None) (λ x. spec.globals bytes.now ≡ Some ((x.0.flag, (x.0.cell, (x.0.name.now, x.0.value))), x.1.now)) }
 {
@@ -321,7 +321,7 @@ fn read_globals(bytes: &[u8]) -> Option<(Globals<'_>, &[u8])>
     Some((globals, rest))
 }
 
-#[tactic(auto, unfolding(crate::specs::LayoutReading::opening))]
+#[tactic(auto, unfolding(crate::specs::Code::LayoutReading::opening))]
 fn read_opening(bytes: &[u8]) -> Option<(Prototypes, Globals<'_>, &[u8])>
     ensures { MatchOption result (spec.opening bytes.now ≡ None) (λ x. spec.opening bytes.now ≡ Some ((spec.prototypes_view x.0, (x.1.flag, (x.1.cell, (x.1.name.now, x.1.value)))), x.2.now)) }
 {
@@ -332,7 +332,7 @@ fn read_opening(bytes: &[u8]) -> Option<(Prototypes, Globals<'_>, &[u8])>
 }
 
 /// A whole merged text.
-#[tactic(auto, unfolding(crate::specs::LayoutReading::read, crate::specs::LayoutReading::parts, crate::specs::LayoutReading::ending))]
+#[tactic(auto, unfolding(crate::specs::Code::LayoutReading::read, crate::specs::Code::LayoutReading::parts, crate::specs::Code::LayoutReading::ending))]
 pub fn read_layout(alloc: Global, bytes: &[u8]) -> Result<Layout<'_>, Stop>
     ensures { Gives spec.layout_view result (spec.read bytes.now) }
 {

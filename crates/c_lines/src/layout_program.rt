@@ -1,9 +1,9 @@
 //! The program of a merged text of the first form.
 
 ghost use Rattle.std.specs.Prelude.{◌≡◌, map, All, IfOk};
-ghost use Rattle.c_lang.specs.Layout as layout;
-ghost use Rattle.c_lang.specs.Sources.{FitsNumber};
-ghost use Rattle.c_lines.specs.LayoutReading as spec;
+ghost use Rattle.c_lines.specs.Layout as layout;
+ghost use Rattle.c_lang.specs.Units.{FitsNumber};
+ghost use Rattle.c_lines.specs.Code.LayoutReading as spec;
 
 use crate::build::{global, return_zero};
 use crate::layout::{Layout, Main, Piece, Prototypes, Transform, Wrapper};

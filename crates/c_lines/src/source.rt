@@ -1,8 +1,8 @@
 //! The first form of a source, and of a transformer, as they are read line by line.
 
 ghost use Rattle.std.specs.Prelude.{◌≡◌, ◌≤◌, ◌<◌, length, map, None, Some, MatchOption, IfOk};
-ghost use Rattle.c_lines.specs.Readers.{many};
-ghost use Rattle.c_lines.specs.SourceReading as spec;
+ghost use Rattle.c_lines.specs.Code.Readers.{many};
+ghost use Rattle.c_lines.specs.Code.SourceReading as spec;
 
 use crate::stop::Stop;
 use crate::text::{behind, name, number};
@@ -34,7 +34,7 @@ pub struct Setter<'a> {
 }
 
 /// What follows `client_out(NAME);`.
-#[tactic(auto, unfolding(crate::specs::SourceReading::show))]
+#[tactic(auto, unfolding(crate::specs::Code::SourceReading::show))]
 pub fn show<'a>(shown: &[u8], bytes: &'a [u8]) -> Option<&'a [u8]>
     ensures { MatchOption result (spec.show shown.now bytes.now ≡ None) (λ rest. spec.show shown.now bytes.now ≡ Some rest.now) }
 {
@@ -45,7 +45,7 @@ pub fn show<'a>(shown: &[u8], bytes: &'a [u8]) -> Option<&'a [u8]>
 }
 
 /// `NAME = VALUE;`.
-#[tactic(auto, unfolding(crate::specs::SourceReading::setting))]
+#[tactic(auto, unfolding(crate::specs::Code::SourceReading::setting))]
 pub fn setting<'a>(set: &[u8], bytes: &'a [u8]) -> Option<(u32, &'a [u8])>
     ensures { MatchOption result (spec.setting set.now bytes.now ≡ None) (λ x. spec.setting set.now bytes.now ≡ Some (x.0, x.1.now)) }
 {
@@ -57,7 +57,7 @@ pub fn setting<'a>(set: &[u8], bytes: &'a [u8]) -> Option<(u32, &'a [u8])>
 }
 
 /// `dsu_update(NUMBER);`.
-#[tactic(auto, unfolding(crate::specs::SourceReading::asking))]
+#[tactic(auto, unfolding(crate::specs::Code::SourceReading::asking))]
 fn asking(bytes: &[u8]) -> Option<(u32, &[u8])>
     ensures { MatchOption result (spec.asking bytes.now ≡ None) (λ x. spec.asking bytes.now ≡ Some (x.0, x.1.now)) }
 {
@@ -67,7 +67,7 @@ fn asking(bytes: &[u8]) -> Option<(u32, &[u8])>
     Some((k, rest))
 }
 
-#[tactic(auto, unfolding(crate::specs::SourceReading::action_line))]
+#[tactic(auto, unfolding(crate::specs::Code::SourceReading::action_line))]
 fn action_line<'a>(shared: &[u8], bytes: &'a [u8]) -> Option<(Action, &'a [u8])>
     ensures { MatchOption result (spec.action_line shared.now bytes.now ≡ None) (λ x. spec.action_line shared.now bytes.now ≡ Some (spec.action_of x.0, x.1.now)) }
 {
@@ -82,7 +82,7 @@ fn action_line<'a>(shared: &[u8], bytes: &'a [u8]) -> Option<(Action, &'a [u8])>
 }
 
 /// The declaration of a number, behind the front of its name.
-#[tactic(auto, unfolding(crate::specs::SourceReading::declared))]
+#[tactic(auto, unfolding(crate::specs::Code::SourceReading::declared))]
 pub fn declared(bytes: &[u8]) -> Option<(&[u8], u32, &[u8])>
     ensures { MatchOption result (spec.declared bytes.now ≡ None) (λ x. spec.declared bytes.now ≡ Some ((x.0.now, x.1), x.2.now)) }
 {
@@ -93,7 +93,7 @@ pub fn declared(bytes: &[u8]) -> Option<(&[u8], u32, &[u8])>
     Some((shared, value, rest))
 }
 
-#[tactic(auto, unfolding(crate::specs::SourceReading::included))]
+#[tactic(auto, unfolding(crate::specs::Code::SourceReading::included))]
 fn included(bytes: &[u8]) -> (bool, &[u8])
     ensures { spec.included bytes.now ≡ (result.0, result.1.now) }
 {
@@ -109,7 +109,7 @@ fn is_close(bytes: &[u8]) -> bool
     bytes == b"}".as_slice() || bytes == b"}\n".as_slice()
 }
 
-#[tactic(auto, unfolding(crate::specs::SourceReading::opening))]
+#[tactic(auto, unfolding(crate::specs::Code::SourceReading::opening))]
 fn opening(bytes: &[u8]) -> Option<(&[u8], u32, &[u8])>
     ensures { MatchOption result (spec.opening bytes.now ≡ None) (λ x. spec.opening bytes.now ≡ Some ((x.0.now, x.1), x.2.now)) }
 {
@@ -154,7 +154,7 @@ fn values<'a>(
 }
 
 /// An old or a new source, whose last line feed may be missing.
-#[tactic(auto, unfolding(crate::specs::SourceReading::source))]
+#[tactic(auto, unfolding(crate::specs::Code::SourceReading::source))]
 pub fn read_source(alloc: Global, bytes: &[u8]) -> Result<Source<'_>, Stop>
     ensures { spec.Gives spec.source_view result (spec.source bytes.now) }
 {
@@ -175,7 +175,7 @@ pub fn read_source(alloc: Global, bytes: &[u8]) -> Result<Source<'_>, Stop>
 }
 
 /// A transformer, whose last line feed may be missing.
-#[tactic(auto, unfolding(crate::specs::SourceReading::setter))]
+#[tactic(auto, unfolding(crate::specs::Code::SourceReading::setter))]
 pub fn read_setter(alloc: Global, bytes: &[u8]) -> Result<Setter<'_>, Stop>
     ensures { spec.Gives spec.setter_view result (spec.setter bytes.now) }
 {

@@ -1,9 +1,10 @@
 //! The program of a source of the first form, and of a transformer.
 
 ghost use Rattle.std.specs.Prelude.{◌≡◌, ◌+◌, ◌≤◌, ◌∷◌, [], length, map, All, IfOk};
-ghost use Rattle.c_lang.specs.Sources as sources;
-ghost use Rattle.c_lang.specs.Sources.{FitsNumber, FitsAction, IsSource, IsSetter};
-ghost use Rattle.c_lines.specs.SourceReading as spec;
+ghost use Rattle.c_lines.specs.Sources as sources;
+ghost use Rattle.c_lang.specs.Units.{FitsNumber};
+ghost use Rattle.c_lines.specs.Sources.{FitsAction, IsSource, IsSetter};
+ghost use Rattle.c_lines.specs.Code.SourceReading as spec;
 
 use crate::build::{global, one, output, return_zero, set_statement};
 use crate::source::{Action, Setter, Source};

@@ -3,8 +3,8 @@
 ghost use Rattle.std.specs.Prelude.{◌≡◌, ◌++◌, ◌∷◌, [], ◌≤◌, length, take, drop, slice_index, None, Some, MatchOption, bytes_eq, map};
 ghost use Rattle.std.specs.List.{prefix_len, list_all, list_any};
 ghost use Rattle.c_lang.specs.Names as names;
-ghost use Rattle.c_lang.specs.Sources as sources;
-ghost use Rattle.c_lines.specs.Readers as spec;
+ghost use Rattle.c_lines.specs.Sources as sources;
+ghost use Rattle.c_lines.specs.Code.Readers as spec;
 
 use c_lang::{Pos, Unit};
 
@@ -112,7 +112,7 @@ impl Class {
 }
 
 /// What follows the text, where it stands at the front.
-#[tactic(auto, unfolding(crate::specs::Readers::behind))]
+#[tactic(auto, unfolding(crate::specs::Code::Readers::behind))]
 pub fn behind<'a>(text: &[u8], bytes: &'a [u8]) -> Option<&'a [u8]>
     ensures { MatchOption result (spec.behind text.now bytes.now ≡ None) (λ rest. spec.behind text.now bytes.now ≡ Some rest.now) }
 {
@@ -146,7 +146,7 @@ fn value_from(digits: &[u8]) -> Option<u32>
 }
 
 /// A number in decimal digits without a leading zero, at most 2147483647.
-#[tactic(auto, unfolding(crate::specs::Readers::number))]
+#[tactic(auto, unfolding(crate::specs::Code::Readers::number))]
 pub fn number(bytes: &[u8]) -> Option<(u32, &[u8])>
     ensures { MatchOption result (spec.number bytes.now ≡ None) (λ x. spec.number bytes.now ≡ Some (x.0, x.1.now)) }
 {
@@ -194,7 +194,7 @@ pub fn is_shared_name(word: &[u8]) -> bool
 }
 
 /// A name that the shared number may have.
-#[tactic(auto, unfolding(crate::specs::Readers::name))]
+#[tactic(auto, unfolding(crate::specs::Code::Readers::name))]
 pub fn name(bytes: &[u8]) -> Option<(&[u8], &[u8])>
     ensures { MatchOption result (spec.name bytes.now ≡ None) (λ x. spec.name bytes.now ≡ Some (x.0.now, x.1.now)) }
 {
@@ -220,7 +220,7 @@ fn unit_by(byte: u8) -> Option<Unit>
     }
 }
 
-#[tactic(auto, unfolding(crate::specs::Readers::unit_word))]
+#[tactic(auto, unfolding(crate::specs::Code::Readers::unit_word))]
 fn unit_word(bytes: &[u8]) -> Option<(Unit, &[u8])>
     ensures { MatchOption result (spec.unit_word bytes.now ≡ None) (λ x. spec.unit_word bytes.now ≡ Some (x.0, x.1.now)) }
 {
@@ -234,7 +234,7 @@ fn unit_word(bytes: &[u8]) -> Option<(Unit, &[u8])>
 }
 
 /// `#line LINE "UNIT"` and a line feed.
-#[tactic(auto, unfolding(crate::specs::Readers::position))]
+#[tactic(auto, unfolding(crate::specs::Code::Readers::position))]
 pub fn position(bytes: &[u8]) -> Option<(Pos, &[u8])>
     ensures { MatchOption result (spec.position bytes.now ≡ None) (λ x. spec.position bytes.now ≡ Some (x.0, x.1.now)) }
 {
@@ -250,7 +250,7 @@ pub fn position(bytes: &[u8]) -> Option<(Pos, &[u8])>
 }
 
 /// A position, and then this line, which is given with its line feed.
-#[tactic(auto, unfolding(crate::specs::Readers::placed))]
+#[tactic(auto, unfolding(crate::specs::Code::Readers::placed))]
 pub fn placed<'a>(line: &[u8], bytes: &'a [u8]) -> Option<(Pos, &'a [u8])>
     ensures { MatchOption result (spec.placed line.now bytes.now ≡ None) (λ x. spec.placed line.now bytes.now ≡ Some (x.0, x.1.now)) }
 {

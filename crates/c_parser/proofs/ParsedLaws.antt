@@ -4,14 +4,14 @@ use Rattle.c_lang.specs.declared.unit.Unit.{Unit}
 use Rattle.c_lang.specs.declared.unit.Pos.{Pos}
 use Rattle.c_lang.specs.declared.refusal.Refusal.{Refusal}
 use Rattle.c_lang.specs.declared.program.Program.{Program}
-use Rattle.c_lexer.specs.declared.token.Token.{Token}
+use Rattle.c_grammar.specs.declared.token.Token.{Token}
 use Rattle.c_expressions.specs.declared.parse_error.ParseError.{ParseError}
 use Rattle.c_expressions.specs.declared.parse_error.ParseError.TheVariants as error
-use Rattle.c_expressions.specs.ParseSteps.{Fails}
-use Rattle.c_statements.specs.Scopes.{refusal}
-use Rattle.c_parser.specs.Nesting.{too_deep}
-use Rattle.c_parser.specs.Parsed.{IsParsed, IsPlace, IsSyntaxError, refused_by, IsRefused}
-use Rattle.c_parser.specs.UnitReading.{unit_at}
+use Rattle.c_expressions.specs.Code.ParseSteps.{Fails}
+use Rattle.c_grammar.specs.Scopes.{refusal}
+use Rattle.c_grammar.specs.Nesting.{too_deep}
+use Rattle.c_grammar.specs.Parsed.{IsParsed, IsPlace, IsSyntaxError, refused_by, IsRefused}
+use Rattle.c_parser.specs.Code.UnitReading.{unit_at}
 use Rattle.c_parser.proofs.UnitLaws.{is_read, is_gram, no_gram}
 use Rattle.c_expressions.proofs.ExpressionSound.{some_is}
 

@@ -8,22 +8,22 @@ use Rattle.c_lang.specs.declared.unit.Pos.{Pos}
 use Rattle.c_lang.specs.declared.refusal.Refusal.{Refusal}
 use Rattle.c_lang.specs.declared.stmt.Kind.{Kind}
 use Rattle.c_lang.specs.declared.stmt.Kind.TheVariants as kind
-use Rattle.c_lexer.specs.declared.token.Token.{Token}
-use Rattle.c_lexer.specs.declared.token.Word.TheVariants as w
-use Rattle.c_expressions.specs.Tokens.{At, token, mark, keyword, round_open, round_close, brace_open, brace_close, semicolon, int_key, void_key}
-use Rattle.c_expressions.specs.Separated.{Separated, last, more, parts_of, separated_tokens, Each}
-use Rattle.c_expressions.specs.ParseSteps.{◌>>=◌, after, after_key, name_at, separated}
+use Rattle.c_grammar.specs.declared.token.Token.{Token}
+use Rattle.c_grammar.specs.declared.token.Word.TheVariants as w
+use Rattle.c_grammar.specs.Tokens.{At, token, mark, keyword, round_open, round_close, brace_open, brace_close, semicolon, int_key, void_key}
+use Rattle.c_grammar.specs.Separated.{Separated, last, more, parts_of, separated_tokens, Each}
+use Rattle.c_expressions.specs.Code.ParseSteps.{◌>>=◌, after, after_key, name_at, separated}
 use Rattle.c_expressions.proofs.SeparatedLaws.{all_added, reads_all_parts, size_fits}
-use Rattle.c_statements.specs.Statements as g
-use Rattle.c_statements.specs.StatementReading.{Pointer, pointer_at, Read, made}
+use Rattle.c_grammar.specs.Statements as g
+use Rattle.c_statements.specs.Code.StatementReading.{Pointer, pointer_at, Read, made}
 use Rattle.c_statements.proofs.SideComplete.{pointer_again}
 use Rattle.c_statements.proofs.BlockLaws.{is_read}
 use Rattle.c_parser.specs.declared.parts.Parts.{Parts}
 use Rattle.c_parser.specs.declared.params.Param.{Param}
 use Rattle.c_parser.specs.declared.params.Params.{Params}
-use Rattle.c_parser.specs.Units.{ParamTree, nameless, ParamsTree, several, HeadTree, SignedTree, plain, negative, NumberInit, ArrayInit, PointerInit, External, prototype, param_tokens, params_tokens, param_list, param_kind, param_name, param_refusals, all_refusals, IsNamed, AreNamed, signed_tokens, signed_value, number_init_tokens, array_init_tokens, pointer_init_tokens, external_tokens, external_height, IsExternal, values_of, target_of, named_param, add, with_array, with_pointer, with_proto, with_func, function_start}
-use Rattle.c_parser.specs.Units as u
-use Rattle.c_parser.specs.UnitReading.{with_param, param, no_params, params_by, params_at, named_params, signed_at, value, ended, number_global, values_at, array_global, target_at, pointer_global, headed_by, headed, function_at, int_external, void_external, external}
+use Rattle.c_grammar.specs.Units.{ParamTree, nameless, ParamsTree, several, HeadTree, SignedTree, plain, negative, NumberInit, ArrayInit, PointerInit, External, prototype, param_tokens, params_tokens, param_list, param_kind, param_name, param_refusals, all_refusals, IsNamed, AreNamed, signed_tokens, signed_value, number_init_tokens, array_init_tokens, pointer_init_tokens, external_tokens, external_height, IsExternal, values_of, target_of, named_param, add, with_array, with_pointer, with_proto, with_func, function_start}
+use Rattle.c_grammar.specs.Units as u
+use Rattle.c_parser.specs.Code.UnitReading.{with_param, param, no_params, params_by, params_at, named_params, signed_at, value, ended, number_global, values_at, array_global, target_at, pointer_global, headed_by, headed, function_at, int_external, void_external, external}
 
 -- ---- parameters
 

@@ -7,26 +7,26 @@ use Rattle.c_lang.specs.declared.unit.Unit.{Unit}
 use Rattle.c_lang.specs.declared.unit.Pos.{Pos}
 use Rattle.c_lang.specs.declared.stmt.Kind.{Kind}
 use Rattle.c_lang.specs.declared.stmt.Kind.TheVariants as kind
-use Rattle.c_lexer.specs.declared.token.Token.{Token}
-use Rattle.c_lexer.specs.declared.token.Word.{Word}
-use Rattle.c_lexer.specs.declared.token.Word.TheVariants as w
-use Rattle.c_expressions.specs.Tokens.{At, token, mark, keyword, round_open, round_close, brace_open, brace_close, square_open, square_close, semicolon, equals, minus, int_key, void_key}
-use Rattle.c_expressions.specs.Separated.{Separated, last, more, parts_of, separated_tokens, Each}
-use Rattle.c_expressions.specs.ParseSteps.{◌>>=◌, after, after_key, name_at, number_at, separated}
+use Rattle.c_grammar.specs.declared.token.Token.{Token}
+use Rattle.c_grammar.specs.declared.token.Word.{Word}
+use Rattle.c_grammar.specs.declared.token.Word.TheVariants as w
+use Rattle.c_grammar.specs.Tokens.{At, token, mark, keyword, round_open, round_close, brace_open, brace_close, square_open, square_close, semicolon, equals, minus, int_key, void_key}
+use Rattle.c_grammar.specs.Separated.{Separated, last, more, parts_of, separated_tokens, Each}
+use Rattle.c_expressions.specs.Code.ParseSteps.{◌>>=◌, after, after_key, name_at, number_at, separated}
 use Rattle.c_expressions.proofs.ExpressionSound.{bind_some, some_is, after-is, at_of}
 use Rattle.c_expressions.proofs.OperatorLaws.{chosen}
 use Rattle.c_expressions.proofs.SeparatedLaws.{IsPart, parts_read}
-use Rattle.c_statements.specs.Scopes.{arity_refusals}
-use Rattle.c_statements.specs.Statements as g
-use Rattle.c_statements.specs.StatementReading.{Pointer, pointer_at, Read, nothing, items, stmt}
+use Rattle.c_grammar.specs.Scopes.{arity_refusals}
+use Rattle.c_grammar.specs.Statements as g
+use Rattle.c_statements.specs.Code.StatementReading.{Pointer, pointer_at, Read, nothing, items, stmt}
 use Rattle.c_statements.proofs.SideSound.{after_key-is, name_at-is, number_at-is, pointer-read}
 use Rattle.c_statements.proofs.BlockLaws.{is_block}
 use Rattle.c_parser.specs.declared.parts.Parts.{Parts}
 use Rattle.c_parser.specs.declared.params.Param.{Param}
 use Rattle.c_parser.specs.declared.params.Params.{Params}
-use Rattle.c_parser.specs.Units.{ParamTree, nameless, ParamsTree, several, HeadTree, SignedTree, plain, negative, NumberInit, ArrayInit, PointerInit, External, prototype, param_tokens, params_tokens, param_list, param_kind, named_param, all_refusals, IsNamed, AreNamed, signed_tokens, signed_value, number_init_tokens, array_init_tokens, pointer_init_tokens, external_tokens, external_height, IsExternal, with_number, with_array, with_pointer, with_proto, with_func, start_value, values_of, target_of, body_start, function_start, add}
-use Rattle.c_parser.specs.Units as u
-use Rattle.c_parser.specs.UnitReading.{with_param, param_by, param, no_params, params_by, params_at, named_params, signed_by, signed_at, value, ended, number_by, number_global, values_by, values_at, array_global, zero_at, target_by, start_by, target_at, pointer_global, headed_by, headed, function_at, named_by, int_by, int_external, void_external, external_by, external}
+use Rattle.c_grammar.specs.Units.{ParamTree, nameless, ParamsTree, several, HeadTree, SignedTree, plain, negative, NumberInit, ArrayInit, PointerInit, External, prototype, param_tokens, params_tokens, param_list, param_kind, named_param, all_refusals, IsNamed, AreNamed, signed_tokens, signed_value, number_init_tokens, array_init_tokens, pointer_init_tokens, external_tokens, external_height, IsExternal, with_number, with_array, with_pointer, with_proto, with_func, start_value, values_of, target_of, body_start, function_start, add}
+use Rattle.c_grammar.specs.Units as u
+use Rattle.c_parser.specs.Code.UnitReading.{with_param, param_by, param, no_params, params_by, params_at, named_params, signed_by, signed_at, value, ended, number_by, number_global, values_by, values_at, array_global, zero_at, target_by, start_by, target_at, pointer_global, headed_by, headed, function_at, named_by, int_by, int_external, void_external, external_by, external}
 use Rattle.c_parser.proofs.UnitComplete.{param_of, add_param, added_params, params_of, kinds_are, add_value, added_values}
 
 -- ---- parameters

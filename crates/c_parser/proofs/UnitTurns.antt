@@ -1,12 +1,12 @@
 -- The declarations of a unit, a turn at a time.
 use Rattle.std.proofs.Common.{◌≡◌, ℕ, zero, suc, ◌<◌, List, [], ◌∷◌, length, Option, Some, sym, ap, ◌∙◌, arith}
 use Rattle.c_lang.specs.declared.unit.Unit.{Unit}
-use Rattle.c_lexer.specs.declared.token.Token.{Token}
+use Rattle.c_grammar.specs.declared.token.Token.{Token}
 use Rattle.c_expressions.specs.declared.parse_error.ParseError.{ParseError}
 use Rattle.c_expressions.specs.declared.parse_error.ParseError.TheVariants as error
-use Rattle.c_expressions.specs.ParseSteps.{◌>>=◌, Fails}
+use Rattle.c_expressions.specs.Code.ParseSteps.{◌>>=◌, Fails}
 use Rattle.c_parser.specs.declared.parts.Parts.{Parts}
-use Rattle.c_parser.specs.UnitReading.{external, externals}
+use Rattle.c_parser.specs.Code.UnitReading.{external, externals}
 
 module _ (u : Unit) (d : ℕ) where
   -- enough turns are left for the whole

@@ -4,9 +4,9 @@ use Rattle.std.proofs.lemmas.List.Elements.{Contains-get_or}
 use Rattle.c_lang.specs.Names.{Bytes}
 use Rattle.c_lang.specs.declared.unit.Unit.{Unit}
 use Rattle.c_lang.specs.declared.program.Program.{Program}
-use Rattle.c_lexer.specs.declared.token.Token.{Token}
-use Rattle.c_parser.specs.Grammar.{Gram}
-use Rattle.c_parser.specs.Written.{Parses, IsWritten}
+use Rattle.c_grammar.specs.declared.token.Token.{Token}
+use Rattle.c_grammar.specs.Grammar.{Gram}
+use Rattle.c_grammar.specs.Written.{Parses, IsWritten}
 use Rattle.c_parser.proofs.UnitLaws.{one}
 use Rattle.c_lexer.proofs.LexLaws.{one_list}
 

@@ -1,6 +1,1 @@
-pub mod Nesting
-pub mod Units
-pub mod Grammar
-pub mod UnitReading
-pub mod Parsed
-pub mod Written
+pub mod Code

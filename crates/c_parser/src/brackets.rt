@@ -1,11 +1,10 @@
 //! Open brackets.
 
 ghost use Rattle.std.specs.Prelude.{◌≡◌, ◌<◌, ◌+◌, ◌^◌};
-ghost use Rattle.c_parser.specs.Nesting as spec;
+ghost use Rattle.c_grammar.specs.Nesting as spec;
 
-use c_expressions::words;
 use c_lang::Pos;
-use c_lexer::{Token, Word};
+use c_lexer::{Token, Word, punctuator};
 
 /// How many brackets are open after this token.
 fn opened(before: usize, word: &Word) -> usize
@@ -13,8 +12,8 @@ fn opened(before: usize, word: &Word) -> usize
     ensures { result ≡ spec.opened before word.now }
 {
     match word {
-        Word::Punct(words::ROUND_OPEN | words::BRACE_OPEN | words::SQUARE_OPEN) => before + 1,
-        Word::Punct(words::ROUND_CLOSE | words::BRACE_CLOSE | words::SQUARE_CLOSE) => {
+        Word::Punct(punctuator::ROUND_OPEN | punctuator::BRACE_OPEN | punctuator::SQUARE_OPEN) => before + 1,
+        Word::Punct(punctuator::ROUND_CLOSE | punctuator::BRACE_CLOSE | punctuator::SQUARE_CLOSE) => {
             before.saturating_sub(1)
         }
         _ => before,

@@ -1,18 +1,17 @@
 //! Prototypes and functions, behind the opening bracket of their parameters.
 
 ghost use Rattle.std.specs.Prelude.{[], ◌≡◌, ◌<◌, ◌≤◌, ◌+◌, ◌^◌, length, map, IfOk};
-ghost use Rattle.c_expressions.specs.ParseSteps.{Gives};
-ghost use Rattle.c_statements.specs.Seen.{seen_scope};
-ghost use Rattle.c_parser.specs.UnitReading as spec;
-ghost use Rattle.c_parser.specs.Units as units;
+ghost use Rattle.c_expressions.specs.Code.ParseSteps.{Gives};
+ghost use Rattle.c_statements.specs.Code.Seen.{seen_scope};
+ghost use Rattle.c_parser.specs.Code.UnitReading as spec;
+ghost use Rattle.c_grammar.specs.Units as units;
 
 use crate::params::{Param, Params, params_at};
 use crate::parts::Parts;
 use c_expressions::front::skip;
 use c_expressions::parse_error::ParseError;
-use c_expressions::words;
 use c_lang::{Func, Kind, Name, Pos, Proto, Refusal, Unit};
-use c_lexer::Token;
+use c_lexer::{Token, punctuator};
 use c_statements::scope::{Scope, declare};
 use c_statements::statements::items;
 use indexmap::IndexSet;
@@ -58,7 +57,7 @@ fn body_start(
     Ok(scope)
 }
 
-#[tactic(auto, unfolding(crate::specs::UnitReading::function_at))]
+#[tactic(auto, unfolding(crate::specs::Code::UnitReading::function_at))]
 fn function_at<'a>(
     alloc: Global,
     unit: Unit,
@@ -121,7 +120,7 @@ fn prototype(
 }
 
 /// A prototype or a function, behind the opening bracket of its parameters.
-#[tactic(auto, unfolding(crate::specs::UnitReading::headed))]
+#[tactic(auto, unfolding(crate::specs::Code::UnitReading::headed))]
 pub fn headed<'a>(
     alloc: Global,
     unit: Unit,
@@ -136,11 +135,11 @@ pub fn headed<'a>(
     ensures rest { IfOk result (λ x. length x.1.now < length tokens.now) }
 {
     let (params, rest) = params_at(alloc, pos, tokens)?;
-    if let Some(behind) = skip(words::SEMICOLON, rest) {
+    if let Some(behind) = skip(punctuator::SEMICOLON, rest) {
         let parts = prototype(alloc, parts, pos, gives, name, params)?;
         return Ok((parts, behind));
     }
-    match skip(words::BRACE_OPEN, rest) {
+    match skip(punctuator::BRACE_OPEN, rest) {
         Some(inside) => function_at(alloc, unit, deep, parts, pos, gives, name, params, inside),
         None => Err(ParseError::Syntax(rest.len())),
     }

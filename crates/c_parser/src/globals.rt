@@ -1,27 +1,26 @@
 //! Globals, behind their name or their pointer.
 
 ghost use Rattle.std.specs.Prelude.{[], ◌≡◌, ◌<◌, ◌≤◌, ◌+◌, ◌^◌, length, IfOk};
-ghost use Rattle.c_expressions.specs.ParseSteps.{Gives, separated};
-ghost use Rattle.c_parser.specs.UnitReading as spec;
-ghost use Rattle.c_parser.specs.Units as units;
+ghost use Rattle.c_expressions.specs.Code.ParseSteps.{Gives, separated};
+ghost use Rattle.c_parser.specs.Code.UnitReading as spec;
+ghost use Rattle.c_grammar.specs.Units as units;
 
 use crate::parts::{Parts, arity_refusals, array_refusals};
 use c_expressions::front::{after, name_at, number_at, skip};
 use c_expressions::parse_error::ParseError;
-use c_expressions::words;
 use c_lang::{GlobalVar, Name, Pos, Refusal, Shape};
-use c_lexer::Token;
+use c_lexer::{Token, punctuator};
 use c_statements::pointer::pointer_at;
 use sqlite_items::Items;
 use std::alloc::{AllocError, Global};
 
 // A number with or without a sign.
-#[tactic(auto, unfolding(crate::specs::UnitReading::signed_at))]
+#[tactic(auto, unfolding(crate::specs::Code::UnitReading::signed_at))]
 fn signed_at(tokens: &[Token]) -> Result<(i32, &[Token]), ParseError>
     ensures read { Gives (λ x. (x.0, x.1.now)) result (spec.signed_at tokens.now) }
     ensures rest { IfOk result (λ x. length x.1.now < length tokens.now) }
 {
-    match skip(words::MINUS, tokens) {
+    match skip(punctuator::MINUS, tokens) {
         Some(digits) => {
             let Some((number, rest)) = number_at(digits) else {
                 return Err(ParseError::Syntax(digits.len()));
@@ -42,7 +41,7 @@ fn ended(parts: Parts, tokens: &[Token]) -> Result<(Parts, &[Token]), ParseError
     ensures read { Gives (λ x. (x.0, x.1.now)) result (spec.ended parts tokens.now) }
     ensures rest { IfOk result (λ x. length x.1.now < length tokens.now) }
 {
-    let rest = after(words::SEMICOLON, tokens)?;
+    let rest = after(punctuator::SEMICOLON, tokens)?;
     Ok((parts, rest))
 }
 
@@ -64,7 +63,7 @@ fn with_number(
 }
 
 /// An `int`, behind its name.
-#[tactic(auto, unfolding(crate::specs::UnitReading::number_global))]
+#[tactic(auto, unfolding(crate::specs::Code::UnitReading::number_global))]
 pub fn number_global<'a>(
     alloc: Global,
     parts: Parts,
@@ -75,7 +74,7 @@ pub fn number_global<'a>(
     ensures read { Gives (λ x. (x.0, x.1.now)) result (spec.number_global parts pos name tokens.now) }
     ensures rest { IfOk result (λ x. length x.1.now < length tokens.now) }
 {
-    match skip(words::EQUALS, tokens) {
+    match skip(punctuator::EQUALS, tokens) {
         Some(given) => {
             let (value, rest) = signed_at(given)?;
             ended(with_number(alloc, parts, pos, name, value)?, rest)
@@ -102,7 +101,7 @@ fn values(alloc: Global, tokens: &[Token]) -> Result<(Items<i32>, &[Token]), Par
     let mut rest = tokens;
     loop {
         let next = value(all, rest)?;
-        match skip(words::COMMA, next.1) {
+        match skip(punctuator::COMMA, next.1) {
             None => return Ok(next),
             Some(others) => {
                 all = next.0;
@@ -113,16 +112,16 @@ fn values(alloc: Global, tokens: &[Token]) -> Result<(Items<i32>, &[Token]), Par
 }
 
 // An array's initializers, behind its length.
-#[tactic(auto, unfolding(crate::specs::UnitReading::values_at))]
+#[tactic(auto, unfolding(crate::specs::Code::UnitReading::values_at))]
 fn values_at(alloc: Global, tokens: &[Token]) -> Result<(Items<i32>, &[Token]), ParseError>
     ensures read { Gives (λ x. (x.0, x.1.now)) result (spec.values_at tokens.now) }
     ensures rest { IfOk result (λ x. length x.1.now ≤ length tokens.now) }
 {
-    match skip(words::EQUALS, tokens) {
+    match skip(punctuator::EQUALS, tokens) {
         Some(given) => {
-            let inside = after(words::BRACE_OPEN, given)?;
+            let inside = after(punctuator::BRACE_OPEN, given)?;
             let (all, closing) = values(alloc, inside)?;
-            Ok((all, after(words::BRACE_CLOSE, closing)?))
+            Ok((all, after(punctuator::BRACE_CLOSE, closing)?))
         }
         None => Ok((Items::new(alloc), tokens)),
     }
@@ -168,7 +167,7 @@ fn with_array(
 }
 
 /// An array, behind its opening bracket.
-#[tactic(auto, unfolding(crate::specs::UnitReading::array_global))]
+#[tactic(auto, unfolding(crate::specs::Code::UnitReading::array_global))]
 pub fn array_global<'a>(
     alloc: Global,
     parts: Parts,
@@ -182,7 +181,7 @@ pub fn array_global<'a>(
     let Some((size, closing)) = number_at(tokens) else {
         return Err(ParseError::Syntax(tokens.len()));
     };
-    let start = after(words::SQUARE_CLOSE, closing)?;
+    let start = after(punctuator::SQUARE_CLOSE, closing)?;
     let (values, rest) = values_at(alloc, start)?;
     ended(with_array(alloc, parts, pos, name, size, values)?, rest)
 }
@@ -198,12 +197,12 @@ fn zero_at(tokens: &[Token]) -> Result<&[Token], ParseError>
 }
 
 // A pointer's initial value, behind the pointer.
-#[tactic(auto, unfolding(crate::specs::UnitReading::target_at))]
+#[tactic(auto, unfolding(crate::specs::Code::UnitReading::target_at))]
 fn target_at(alloc: Global, tokens: &[Token]) -> Result<(Option<Name>, &[Token]), ParseError>
     ensures read { Gives (λ x. (x.0, x.1.now)) result (spec.target_at tokens.now) }
     ensures rest { IfOk result (λ x. length x.1.now ≤ length tokens.now) }
 {
-    let Some(given) = skip(words::EQUALS, tokens) else {
+    let Some(given) = skip(punctuator::EQUALS, tokens) else {
         return Ok((None, tokens));
     };
     match name_at(given) {
@@ -231,7 +230,7 @@ fn with_pointer(
 }
 
 /// A pointer, behind its `int`.
-#[tactic(auto, unfolding(crate::specs::UnitReading::pointer_global))]
+#[tactic(auto, unfolding(crate::specs::Code::UnitReading::pointer_global))]
 pub fn pointer_global<'a>(
     alloc: Global,
     parts: Parts,

@@ -4,9 +4,9 @@ ghost use Rattle.std.specs.Prelude.{◌≡◌, ℕ, List};
 ghost use Rattle.c_lang.specs.Names.{Bytes};
 ghost use Rattle.c_lang.specs.declared.unit.Unit.{Unit};
 ghost use Rattle.c_lang.specs.declared.program.Program.{Program};
-ghost use Rattle.c_lexer.specs.declared.token.Token.{Token};
-ghost use Rattle.c_parser.specs.Grammar.{Gram};
-ghost use Rattle.c_parser.specs.Written.{Parses, IsWritten};
+ghost use Rattle.c_grammar.specs.declared.token.Token.{Token};
+ghost use Rattle.c_grammar.specs.Grammar.{Gram};
+ghost use Rattle.c_grammar.specs.Written.{Parses, IsWritten};
 
 /// No tokens are two programs, whatever their heights.
 pub fn one_program()

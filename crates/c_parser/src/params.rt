@@ -1,16 +1,15 @@
 //! The parameters of a head.
 
 ghost use Rattle.std.specs.Prelude.{[], ◌≡◌, ◌≤◌, ◌<◌, ◌+◌, length, IfOk, option_map};
-ghost use Rattle.c_expressions.specs.ParseSteps.{Gives, separated};
-ghost use Rattle.c_parser.specs.UnitReading as spec;
-ghost use Rattle.c_parser.specs.Units as units;
+ghost use Rattle.c_expressions.specs.Code.ParseSteps.{Gives, separated};
+ghost use Rattle.c_parser.specs.Code.UnitReading as spec;
+ghost use Rattle.c_grammar.specs.Units as units;
 
 use crate::parts::arity_refusals;
 use c_expressions::front::{after, after_key, name_at, skip, skip_key};
 use c_expressions::parse_error::ParseError;
-use c_expressions::words;
 use c_lang::{Kind, Name, Pos, Refusal};
-use c_lexer::Token;
+use c_lexer::{Token, keyword, punctuator};
 use c_statements::pointer::pointer_at;
 use sqlite_items::Items;
 use std::alloc::{AllocError, Global};
@@ -49,7 +48,7 @@ fn with_int(alloc: Global, params: Params, name: Option<Name>) -> Result<Params,
     with_param(params, param, Items::new(alloc))
 }
 
-#[tactic(auto, unfolding(crate::specs::UnitReading::param))]
+#[tactic(auto, unfolding(crate::specs::Code::UnitReading::param))]
 fn parameter<'a>(
     alloc: Global,
     pos: Pos,
@@ -59,12 +58,12 @@ fn parameter<'a>(
     ensures read { Gives (λ x. (x.0, x.1.now)) result (spec.param pos params tokens.now) }
     ensures rest { IfOk result (λ x. length x.1.now < length tokens.now) }
 {
-    let rest = after_key(words::INT, tokens)?;
+    let rest = after_key(keyword::INT, tokens)?;
     if let Some((name, rest)) = name_at(rest) {
         let params = with_int(alloc, params, Some(name.copy(alloc)?))?;
         return Ok((params, rest));
     }
-    match skip(words::ROUND_OPEN, rest) {
+    match skip(punctuator::ROUND_OPEN, rest) {
         None => Ok((with_int(alloc, params, None)?, rest)),
         Some(_) => pointer_param(alloc, pos, params, rest),
     }
@@ -96,7 +95,7 @@ fn several(alloc: Global, pos: Pos, tokens: &[Token]) -> Result<(Params, &[Token
     let mut rest = tokens;
     loop {
         let next = parameter(alloc, pos, params, rest)?;
-        match skip(words::COMMA, next.1) {
+        match skip(punctuator::COMMA, next.1) {
             None => return Ok(next),
             Some(others) => {
                 params = next.0;
@@ -116,7 +115,7 @@ fn no_params(alloc: Global) -> Params
 }
 
 /// The parameters of a head at this position, behind its opening bracket and up to the closing one.
-#[tactic(auto, unfolding(crate::specs::UnitReading::params_at))]
+#[tactic(auto, unfolding(crate::specs::Code::UnitReading::params_at))]
 pub fn params_at(
     alloc: Global,
     pos: Pos,
@@ -125,14 +124,14 @@ pub fn params_at(
     ensures read { Gives (λ x. (x.0, x.1.now)) result (spec.params_at pos tokens.now) }
     ensures rest { IfOk result (λ x. length x.1.now < length tokens.now) }
 {
-    if let Some(rest) = skip(words::ROUND_CLOSE, tokens) {
+    if let Some(rest) = skip(punctuator::ROUND_CLOSE, tokens) {
         return Ok((no_params(alloc), rest));
     }
-    match skip_key(words::VOID, tokens) {
-        Some(inside) => Ok((no_params(alloc), after(words::ROUND_CLOSE, inside)?)),
+    match skip_key(keyword::VOID, tokens) {
+        Some(inside) => Ok((no_params(alloc), after(punctuator::ROUND_CLOSE, inside)?)),
         None => {
             let (params, closing) = several(alloc, pos, tokens)?;
-            Ok((params, after(words::ROUND_CLOSE, closing)?))
+            Ok((params, after(punctuator::ROUND_CLOSE, closing)?))
         }
     }
 }

@@ -4,9 +4,9 @@ ghost use Rattle.std.specs.Prelude.{◌≡◌, ◌≤◌, ◌<◌, ℕ, List, le
 ghost use Rattle.c_lang.specs.declared.unit.Unit.{Unit};
 ghost use Rattle.c_lang.specs.declared.program.Program.{Program};
 ghost use Rattle.c_lang.specs.declared.refusal.Fail.TheVariants as Fail;
-ghost use Rattle.c_lexer.specs.declared.token.Token.{Token};
-ghost use Rattle.c_parser.specs.Grammar.{Gram};
-ghost use Rattle.c_parser.specs.Parsed.{IsParsed, IsPlace, IsRefusedAs};
+ghost use Rattle.c_grammar.specs.declared.token.Token.{Token};
+ghost use Rattle.c_grammar.specs.Grammar.{Gram};
+ghost use Rattle.c_grammar.specs.Parsed.{IsParsed, IsPlace, IsRefusedAs};
 
 use crate::brackets::too_deep;
 use crate::units::unit_at;

@@ -1,9 +1,9 @@
 //! What the declarations of a unit have given so far.
 
 ghost use Rattle.std.specs.Prelude.{◌≡◌, [], ◌∷◌, length, IfOk};
-ghost use Rattle.c_parser.specs.Grammar as grammar;
-ghost use Rattle.c_parser.specs.Units as spec;
-ghost use Rattle.c_statements.specs.Scopes as scopes;
+ghost use Rattle.c_grammar.specs.Grammar as grammar;
+ghost use Rattle.c_grammar.specs.Units as spec;
+ghost use Rattle.c_grammar.specs.Scopes as scopes;
 
 use c_lang::{Func, GlobalVar, Pos, Program, Proto, Refusal, Unit};
 use c_statements::scope::{is_merge, refusal};

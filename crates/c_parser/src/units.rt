@@ -1,18 +1,17 @@
 //! The declarations of a unit.
 
 ghost use Rattle.std.specs.Prelude.{◌≡◌, ◌<◌, ◌+◌, length, IfOk};
-ghost use Rattle.c_expressions.specs.ParseSteps.{Gives};
-ghost use Rattle.c_parser.specs.UnitReading as spec;
-ghost use Rattle.c_parser.specs.Units as units;
+ghost use Rattle.c_expressions.specs.Code.ParseSteps.{Gives};
+ghost use Rattle.c_parser.specs.Code.UnitReading as spec;
+ghost use Rattle.c_grammar.specs.Units as units;
 
 use crate::functions::headed;
 use crate::globals::{array_global, number_global, pointer_global};
 use crate::parts::Parts;
 use c_expressions::front::{after, name_at, skip};
 use c_expressions::parse_error::ParseError;
-use c_expressions::words;
 use c_lang::{Name, Pos, Program, Unit};
-use c_lexer::{Token, Word};
+use c_lexer::{Token, Word, keyword, punctuator};
 use std::alloc::Global;
 
 // A declaration that begins with `int` and a name, behind the name.
@@ -28,17 +27,17 @@ fn named<'a>(
     ensures read { Gives (λ x. (x.0, x.1.now)) result (spec.named unit deep parts pos name tokens.now) }
     ensures rest { IfOk result (λ x. length x.1.now < length tokens.now) }
 {
-    if let Some(inside) = skip(words::ROUND_OPEN, tokens) {
+    if let Some(inside) = skip(punctuator::ROUND_OPEN, tokens) {
         return headed(alloc, unit, deep, parts, pos, true, name, inside);
     }
-    match skip(words::SQUARE_OPEN, tokens) {
+    match skip(punctuator::SQUARE_OPEN, tokens) {
         Some(inside) => array_global(alloc, parts, pos, name, inside),
         None => number_global(alloc, parts, pos, name, tokens),
     }
 }
 
 // A declaration that begins with `int`, behind the keyword.
-#[tactic(auto, unfolding(crate::specs::UnitReading::int_external))]
+#[tactic(auto, unfolding(crate::specs::Code::UnitReading::int_external))]
 fn int_external<'a>(
     alloc: Global,
     unit: Unit,
@@ -57,7 +56,7 @@ fn int_external<'a>(
 }
 
 // A declaration that begins with `void`, behind the keyword.
-#[tactic(auto, unfolding(crate::specs::UnitReading::void_external))]
+#[tactic(auto, unfolding(crate::specs::Code::UnitReading::void_external))]
 fn void_external<'a>(
     alloc: Global,
     unit: Unit,
@@ -72,7 +71,7 @@ fn void_external<'a>(
     let Some((name, rest)) = name_at(tokens) else {
         return Err(ParseError::Syntax(tokens.len()));
     };
-    let inside = after(words::ROUND_OPEN, rest)?;
+    let inside = after(punctuator::ROUND_OPEN, rest)?;
     headed(
         alloc,
         unit,
@@ -85,7 +84,7 @@ fn void_external<'a>(
     )
 }
 
-#[tactic(auto, unfolding(crate::specs::UnitReading::external))]
+#[tactic(auto, unfolding(crate::specs::Code::UnitReading::external))]
 fn external<'a>(
     alloc: Global,
     unit: Unit,
@@ -100,8 +99,8 @@ fn external<'a>(
         return Err(ParseError::Syntax(0));
     };
     match &first.what {
-        Word::Key(words::INT) => int_external(alloc, unit, deep, parts, first.pos, rest),
-        Word::Key(words::VOID) => void_external(alloc, unit, deep, parts, first.pos, rest),
+        Word::Key(keyword::INT) => int_external(alloc, unit, deep, parts, first.pos, rest),
+        Word::Key(keyword::VOID) => void_external(alloc, unit, deep, parts, first.pos, rest),
         _ => Err(ParseError::Syntax(tokens.len())),
     }
 }
@@ -120,7 +119,7 @@ fn externals(alloc: Global, unit: Unit, deep: u32, tokens: &[Token]) -> Result<P
 }
 
 /// The program of a unit, whose statements are at most `deep` high.
-#[tactic(auto, unfolding(crate::specs::UnitReading::unit_at))]
+#[tactic(auto, unfolding(crate::specs::Code::UnitReading::unit_at))]
 pub fn unit_at(
     alloc: Global,
     unit: Unit,

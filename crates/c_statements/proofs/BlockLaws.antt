@@ -3,14 +3,14 @@ use Rattle.std.proofs.Common.{◌≡◌, ℕ, ◌+◌, ◌<◌, false, List, [],
 use Rattle.std.specs.Prelude.{Result, Ok, Err, MatchResult}
 use Rattle.std.proofs.lemmas.List.{length-append}
 use Rattle.c_lang.specs.declared.unit.Unit.{Unit}
-use Rattle.c_lexer.specs.declared.token.Token.{Token}
+use Rattle.c_grammar.specs.declared.token.Token.{Token}
 use Rattle.c_expressions.specs.declared.parse_error.ParseError.{ParseError}
 use Rattle.c_expressions.specs.declared.parse_error.ParseError.TheVariants as error
-use Rattle.c_expressions.specs.Tokens.{mark, brace_close}
-use Rattle.c_statements.specs.Scopes.{Scope}
-use Rattle.c_expressions.specs.ParseSteps.{Gives}
-use Rattle.c_statements.specs.Statements as g
-use Rattle.c_statements.specs.StatementReading.{Read, made, nothing, items, stmt}
+use Rattle.c_grammar.specs.Tokens.{mark, brace_close}
+use Rattle.c_grammar.specs.Scopes.{Scope}
+use Rattle.c_expressions.specs.Code.ParseSteps.{Gives}
+use Rattle.c_grammar.specs.Statements as g
+use Rattle.c_statements.specs.Code.StatementReading.{Read, made, nothing, items, stmt}
 use Rattle.c_statements.specs.Blocks.{IsBlock, IsNoBlock}
 use Rattle.c_expressions.proofs.ExpressionSound.{some_is}
 use Rattle.c_statements.proofs.StatementComplete.{count, count_fits, reads_pieces}

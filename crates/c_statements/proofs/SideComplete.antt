@@ -8,18 +8,18 @@ use Rattle.c_lang.specs.declared.unit.Unit.{Unit}
 use Rattle.c_lang.specs.declared.expr.Op.{Op}
 use Rattle.c_lang.specs.declared.expr.Op.TheVariants as op
 use Rattle.c_lang.specs.declared.expr.Expr.{Expr}
-use Rattle.c_lexer.specs.declared.token.Token.{Token}
-use Rattle.c_lexer.specs.declared.token.Word.TheVariants as w
-use Rattle.c_statements.specs.declared.right.Call.TheVariants as call
-use Rattle.c_statements.specs.declared.right.Right.TheVariants as right
-use Rattle.c_expressions.specs.Tokens.{At, token, mark, operator, round_open, round_close, semicolon, comma, dsu_updated_key}
-use Rattle.c_expressions.specs.Separated.{Separated, last, more, parts_of, separated_tokens, Each}
-use Rattle.c_expressions.specs.ParseSteps.{◌>>=◌, after, after_key, separated}
-use Rattle.c_expressions.specs.Expressions.{Tree, number, name, element, brackets, negated, denied, joined, tokens_of, expr_of, IsGrouped}
-use Rattle.c_expressions.specs.Expressions as e
-use Rattle.c_expressions.specs.ExpressionReading.{Found, next_operator, expr}
-use Rattle.c_statements.specs.Statements as g
-use Rattle.c_statements.specs.StatementReading.{Args, argument, with_argument, no_args, close_call, Called, call_at, input_at, choice_at, Side, value_at, right_side, condition, count_int, ints_by, ints_at, pointer_at}
+use Rattle.c_grammar.specs.declared.token.Token.{Token}
+use Rattle.c_grammar.specs.declared.token.Word.TheVariants as w
+use Rattle.c_grammar.specs.declared.right.Call.TheVariants as call
+use Rattle.c_grammar.specs.declared.right.Right.TheVariants as right
+use Rattle.c_grammar.specs.Tokens.{At, token, mark, operator, round_open, round_close, semicolon, comma, dsu_updated_key}
+use Rattle.c_grammar.specs.Separated.{Separated, last, more, parts_of, separated_tokens, Each}
+use Rattle.c_expressions.specs.Code.ParseSteps.{◌>>=◌, after, after_key, separated}
+use Rattle.c_grammar.specs.Expressions.{Tree, number, name, element, brackets, negation, logical_not, joined, tokens_of, expr_of, IsGrouped}
+use Rattle.c_grammar.specs.Expressions as e
+use Rattle.c_expressions.specs.Code.ExpressionReading.{Found, next_operator, expr}
+use Rattle.c_grammar.specs.Statements as g
+use Rattle.c_statements.specs.Code.StatementReading.{Args, argument, with_argument, no_args, close_call, Called, call_at, input_at, choice_at, Side, value_at, right_side, condition, count_int, ints_by, ints_at, pointer_at}
 use Rattle.c_expressions.proofs.ExpressionComplete.{reads_all, found as found_expr}
 use Rattle.c_expressions.proofs.SeparatedLaws.{all_added, reads_all_parts, size_fits}
 
@@ -35,8 +35,8 @@ begins_so (number at n) rest = record { no_close = refl; no_end = refl; no_key =
 begins_so (name at x) rest = record { no_close = refl; no_end = refl; no_key = λ k. refl }
 begins_so (element at x o t c) rest = record { no_close = refl; no_end = refl; no_key = λ k. refl }
 begins_so (brackets o t c) rest = record { no_close = refl; no_end = refl; no_key = λ k. refl }
-begins_so (negated at t) rest = record { no_close = refl; no_end = refl; no_key = λ k. refl }
-begins_so (denied at t) rest = record { no_close = refl; no_end = refl; no_key = λ k. refl }
+begins_so (negation at t) rest = record { no_close = refl; no_end = refl; no_key = λ k. refl }
+begins_so (logical_not at t) rest = record { no_close = refl; no_end = refl; no_key = λ k. refl }
 begins_so (joined a at o b) rest =
     subst (λ (ts : List Token). Begins ts) (sym (append_assoc (tokens_of a) (operator o at ∷ tokens_of b) rest)) (begins_so a (operator o at ∷ (tokens_of b ++ rest)))
 
@@ -62,8 +62,8 @@ is_value u d (number at n) rest h = refl
 is_value u d (name at x) rest h = rw h refl
 is_value u d (element at x o t c) rest h = refl
 is_value u d (brackets o t c) rest h = refl
-is_value u d (negated at t) rest h = refl
-is_value u d (denied at t) rest h = refl
+is_value u d (negation at t) rest h = refl
+is_value u d (logical_not at t) rest h = refl
 is_value u d (joined a at o b) rest h =
     let split = append_assoc (tokens_of a) (operator o at ∷ tokens_of b) rest in
     ap (right_side u d) split ∙ is_value u d a (operator o at ∷ (tokens_of b ++ rest)) (no_call_after o at (tokens_of b ++ rest)) ∙ sym (ap (value_at d) split)

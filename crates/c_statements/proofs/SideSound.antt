@@ -5,20 +5,20 @@ use Rattle.std.proofs.lemmas.Bool.{ltb-true, eqb-true}
 use Rattle.c_lang.specs.Names.{Bytes}
 use Rattle.c_lang.specs.declared.unit.Unit.{Unit}
 use Rattle.c_lang.specs.declared.expr.Expr.{Expr}
-use Rattle.c_lexer.specs.declared.token.Token.{Token}
-use Rattle.c_lexer.specs.declared.token.Word.{Word}
-use Rattle.c_lexer.specs.declared.token.Word.TheVariants as w
-use Rattle.c_statements.specs.declared.right.Call.TheVariants as call
-use Rattle.c_statements.specs.declared.right.Right.TheVariants as right
-use Rattle.c_expressions.specs.Tokens.{At, token, mark, keyword, round_open, round_close, star, client_in_key, dsu_choice_key, int_key, void_key}
-use Rattle.c_expressions.specs.Separated.{Separated, last, more, parts_of, separated_tokens, Each}
-use Rattle.c_statements.specs.Scopes.{is_merge}
-use Rattle.c_expressions.specs.ParseSteps.{◌>>=◌, after, key_by, after_key, named, name_at, natural, numbered, number_at, separated}
-use Rattle.c_expressions.specs.Expressions.{Tree, tokens_of, expr_of, IsGrouped}
-use Rattle.c_expressions.specs.Expressions as e
-use Rattle.c_expressions.specs.ExpressionReading.{Found, expr}
-use Rattle.c_statements.specs.Statements as g
-use Rattle.c_statements.specs.StatementReading.{Args, argument, with_argument, no_args, close_call, call_by, Called, call_at, input_at, choice_at, Side, value_at, called, named_side, side_by, right_side, condition, Pointer, count_int, ints_by, ints_at, pointer_at}
+use Rattle.c_grammar.specs.declared.token.Token.{Token}
+use Rattle.c_grammar.specs.declared.token.Word.{Word}
+use Rattle.c_grammar.specs.declared.token.Word.TheVariants as w
+use Rattle.c_grammar.specs.declared.right.Call.TheVariants as call
+use Rattle.c_grammar.specs.declared.right.Right.TheVariants as right
+use Rattle.c_grammar.specs.Tokens.{At, token, mark, keyword, round_open, round_close, star, client_in_key, dsu_choice_key, int_key, void_key}
+use Rattle.c_grammar.specs.Separated.{Separated, last, more, parts_of, separated_tokens, Each}
+use Rattle.c_grammar.specs.Scopes.{is_merge}
+use Rattle.c_expressions.specs.Code.ParseSteps.{◌>>=◌, after, key_by, after_key, named, name_at, natural, numbered, number_at, separated}
+use Rattle.c_grammar.specs.Expressions.{Tree, tokens_of, expr_of, IsGrouped}
+use Rattle.c_grammar.specs.Expressions as e
+use Rattle.c_expressions.specs.Code.ExpressionReading.{Found, expr}
+use Rattle.c_grammar.specs.Statements as g
+use Rattle.c_statements.specs.Code.StatementReading.{Args, argument, with_argument, no_args, close_call, call_by, Called, call_at, input_at, choice_at, Side, value_at, called, named_side, side_by, right_side, condition, Pointer, count_int, ints_by, ints_at, pointer_at}
 use Rattle.c_expressions.proofs.OperatorLaws.{chosen}
 use Rattle.c_expressions.proofs.ExpressionSound.{bind_some, some_is, after-is, at_of, reads_trees}
 use Rattle.c_expressions.proofs.ExpressionComplete.{found as found_expr}

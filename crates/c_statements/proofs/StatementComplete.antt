@@ -8,15 +8,15 @@ use Rattle.c_lang.specs.declared.expr.Expr.{Expr}
 use Rattle.c_lang.specs.declared.stmt.Dest.TheVariants as dest
 use Rattle.c_lang.specs.declared.stmt.Stmt.{Stmt}
 use Rattle.c_lang.specs.declared.stmt.Stmt.TheVariants as s
-use Rattle.c_lexer.specs.declared.token.Token.{Token}
-use Rattle.c_expressions.specs.Tokens.{At, mark, keyword, round_open, round_close, brace_open, brace_close, square_close, semicolon, equals, else_key, dsu_updated_key}
-use Rattle.c_statements.specs.Scopes.{Scope, is_client}
-use Rattle.c_expressions.specs.ParseSteps.{◌>>=◌, after, after_key}
-use Rattle.c_expressions.specs.Expressions.{Tree, tokens_of, expr_of, IsGrouped}
-use Rattle.c_expressions.specs.Expressions as e
-use Rattle.c_expressions.specs.ExpressionReading.{expr}
-use Rattle.c_statements.specs.Statements as g
-use Rattle.c_statements.specs.StatementReading.{right_side, call_at, condition, pointer_at, Read, made, assign, assign_element, run, keyword_stmt, named_stmt, declare_int, declare_pointer, return_at, checked, point_at, force_at, One, end_one, one_at, side_of_pick, pick_at, chain, nothing, items_by, items, body_by, body, branch, repeat, stmt_at, stmt}
+use Rattle.c_grammar.specs.declared.token.Token.{Token}
+use Rattle.c_grammar.specs.Tokens.{At, mark, keyword, round_open, round_close, brace_open, brace_close, square_close, semicolon, equals, else_key, dsu_updated_key}
+use Rattle.c_grammar.specs.Scopes.{Scope, is_client}
+use Rattle.c_expressions.specs.Code.ParseSteps.{◌>>=◌, after, after_key}
+use Rattle.c_grammar.specs.Expressions.{Tree, tokens_of, expr_of, IsGrouped}
+use Rattle.c_grammar.specs.Expressions as e
+use Rattle.c_expressions.specs.Code.ExpressionReading.{expr}
+use Rattle.c_grammar.specs.Statements as g
+use Rattle.c_statements.specs.Code.StatementReading.{right_side, call_at, condition, pointer_at, Read, made, assign, assign_element, run, keyword_stmt, named_stmt, declare_int, declare_pointer, return_at, checked, point_at, force_at, One, end_one, one_at, side_of_pick, pick_at, chain, nothing, items_by, items, body_by, body, branch, repeat, stmt_at, stmt}
 use Rattle.c_expressions.proofs.ExpressionComplete.{reads_all, found as found_expr}
 use Rattle.c_statements.proofs.SideComplete.{begins_so, args_again, found_call, call_again, found_side, side_again, cond_again, no_pick, pointer_again}
 
@@ -158,7 +158,7 @@ module _ (inner : Bool → Bool → Scope → List Token → Option Read) (d : �
   simple_again m l (g.pointer int p is y end) h high sc rest =
       subst (λ (v : Bool). stmt_at inner d u v l sc (g.simple_tokens (g.pointer int p is y end) ++ rest) ≡ Some (found_simple (g.pointer int p is y end) sc rest)) (sym h.0) (local_pointer_again l int is end p y h.1 (omega arith) sc rest)
   simple_again m l (g.run c end) h high sc rest = run_again m l c end h (omega arith) sc rest
-  simple_again m l (g.break_off at end) h high sc rest = rw h refl
+  simple_again m l (g.break_loop at end) h high sc rest = rw h refl
   simple_again m l (g.return_off at end) h high sc rest = refl
   simple_again m l (g.return_side at y end) h high sc rest = return_again m l at end y h (omega arith) sc rest
   simple_again m l (g.assert_that at c end) h high sc rest = checked_again (s.Assert at.pos) c end sc rest h (omega arith)
@@ -213,7 +213,7 @@ simple_opens (g.pointer int p is y end) rest = record { no_brace = refl; no_end 
 simple_opens (g.run (g.function c) end) rest = record { no_brace = refl; no_end = refl; no_else = refl }
 simple_opens (g.run (g.input at o c) end) rest = record { no_brace = refl; no_end = refl; no_else = refl }
 simple_opens (g.run (g.choice at o n k c) end) rest = record { no_brace = refl; no_end = refl; no_else = refl }
-simple_opens (g.break_off at end) rest = record { no_brace = refl; no_end = refl; no_else = refl }
+simple_opens (g.break_loop at end) rest = record { no_brace = refl; no_end = refl; no_else = refl }
 simple_opens (g.return_off at end) rest = record { no_brace = refl; no_end = refl; no_else = refl }
 simple_opens (g.return_side at y end) rest = record { no_brace = refl; no_end = refl; no_else = refl }
 simple_opens (g.assert_that at c end) rest = record { no_brace = refl; no_end = refl; no_else = refl }
@@ -245,7 +245,7 @@ some_simple (g.pointer int p is y end) = omega arith
 some_simple (g.run (g.function c) end) = omega arith
 some_simple (g.run (g.input at o c) end) = omega arith
 some_simple (g.run (g.choice at o n k c) end) = omega arith
-some_simple (g.break_off at end) = omega arith
+some_simple (g.break_loop at end) = omega arith
 some_simple (g.return_off at end) = omega arith
 some_simple (g.return_side at y end) = omega arith
 some_simple (g.assert_that at c end) = omega arith
@@ -312,7 +312,7 @@ simple_positive (g.set_element at x o t c is y end) = omega arith
 simple_positive (g.declaration int at x is y end) = omega arith
 simple_positive (g.pointer int p is y end) = omega arith
 simple_positive (g.run c end) = omega arith
-simple_positive (g.break_off at end) = omega arith
+simple_positive (g.break_loop at end) = omega arith
 simple_positive (g.return_off at end) = omega arith
 simple_positive (g.return_side at y end) = omega arith
 simple_positive (g.assert_that at c end) = omega arith

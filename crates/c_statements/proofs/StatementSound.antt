@@ -11,17 +11,17 @@ use Rattle.c_lang.specs.declared.stmt.Dest.{Dest}
 use Rattle.c_lang.specs.declared.stmt.Dest.TheVariants as dest
 use Rattle.c_lang.specs.declared.stmt.Stmt.{Stmt}
 use Rattle.c_lang.specs.declared.stmt.Stmt.TheVariants as s
-use Rattle.c_lexer.specs.declared.token.Token.{Token}
-use Rattle.c_lexer.specs.declared.token.Word.{Word}
-use Rattle.c_lexer.specs.declared.token.Word.TheVariants as w
-use Rattle.c_expressions.specs.Tokens.{At, token, mark, keyword, round_open, round_close, brace_open, brace_close, square_open, square_close, semicolon, equals, else_key, if_key, while_key, int_key, break_key, return_key, assert_key, client_out_key, client_in_key, dsu_choice_key, dsu_update_key, dsu_force_key, dsu_updated_key}
-use Rattle.c_statements.specs.Scopes.{Scope, declare, refuse_arity, is_client, is_merge}
-use Rattle.c_expressions.specs.ParseSteps.{◌>>=◌, after, after_key, named, name_at, number_at}
-use Rattle.c_expressions.specs.Expressions.{Tree, tokens_of, expr_of, IsGrouped}
-use Rattle.c_expressions.specs.Expressions as e
-use Rattle.c_expressions.specs.ExpressionReading.{Found, expr}
-use Rattle.c_statements.specs.Statements as g
-use Rattle.c_statements.specs.StatementReading.{Called, Side, right_side, call_at, input_at, choice_at, condition, Pointer, pointer_at, Read, made, done, assign, assign_element, run, named_by, named_stmt, declare_int, declare_pointer, declaration, declaration_by, return_by, return_at, checked, point_at, force_at, One, end_one, call_behind, one_by, one_at, side_of_pick_by, side_of_pick, pick_at, updated_at, keyword_stmt, chain, nothing, if_only, if_else, while_loop, items_by, items, body_by, body, else_by, branch, if_by, repeat, key_stmt, stmt_by, stmt_at, stmt}
+use Rattle.c_grammar.specs.declared.token.Token.{Token}
+use Rattle.c_grammar.specs.declared.token.Word.{Word}
+use Rattle.c_grammar.specs.declared.token.Word.TheVariants as w
+use Rattle.c_grammar.specs.Tokens.{At, token, mark, keyword, round_open, round_close, brace_open, brace_close, square_open, square_close, semicolon, equals, else_key, if_key, while_key, int_key, break_key, return_key, assert_key, client_out_key, client_in_key, dsu_choice_key, dsu_update_key, dsu_force_key, dsu_updated_key}
+use Rattle.c_grammar.specs.Scopes.{Scope, declare, refuse_arity, is_client, is_merge}
+use Rattle.c_expressions.specs.Code.ParseSteps.{◌>>=◌, after, after_key, named, name_at, number_at}
+use Rattle.c_grammar.specs.Expressions.{Tree, tokens_of, expr_of, IsGrouped}
+use Rattle.c_grammar.specs.Expressions as e
+use Rattle.c_expressions.specs.Code.ExpressionReading.{Found, expr}
+use Rattle.c_grammar.specs.Statements as g
+use Rattle.c_statements.specs.Code.StatementReading.{Called, Side, right_side, call_at, input_at, choice_at, condition, Pointer, pointer_at, Read, made, done, assign, assign_element, run, named_by, named_stmt, declare_int, declare_pointer, declaration, declaration_by, return_by, return_at, checked, point_at, force_at, One, end_one, call_behind, one_by, one_at, side_of_pick_by, side_of_pick, pick_at, updated_at, keyword_stmt, chain, nothing, if_only, if_else, while_loop, items_by, items, body_by, body, else_by, branch, if_by, repeat, key_stmt, stmt_by, stmt_at, stmt}
 use Rattle.c_expressions.proofs.OperatorLaws.{chosen}
 use Rattle.c_expressions.proofs.ExpressionSound.{bind_some, some_is, after-is, at_of, reads_trees}
 use Rattle.c_statements.proofs.SideComplete.{found_side}
@@ -615,7 +615,7 @@ module _ (u : Unit) (inner : Bool → Bool → Scope → List Token → Option R
   break-read : (m : Bool) (at : At) (sc : Scope) (ts : List Token) (x : Read) → done (s.Break at.pos ∷ []) 1 sc ts ≡ Some x → IsPieceRead u (suc d) m true sc (keyword break_key at ∷ ts) x
   break-read m at sc ts x q =
       let z = done-is (s.Break at.pos ∷ []) 1 sc ts x q in
-      record { tree = g.simple (g.break_off at z.0.end); valid = refl; high = omega arith; parts = ap (λ (t : List Token). keyword break_key at ∷ t) z.0.split; same = z.1; closed = λ e. absurd cc }
+      record { tree = g.simple (g.break_loop at z.0.end); valid = refl; high = omega arith; parts = ap (λ (t : List Token). keyword break_key at ∷ t) z.0.split; same = z.1; closed = λ e. absurd cc }
 
   if_true : (P : Bool → Type 0) (b : Bool) (y : Option Read) (x : Read) → cond b y None ≡ Some x → (y ≡ Some x → P true) → P b
   if_true P true y x q f = f q

@@ -1,13 +1,13 @@
 -- The statements of a block, a turn at a time.
 use Rattle.std.proofs.Common.{◌≡◌, ℕ, zero, suc, ◌-◌, ◌<◌, ◌≤◌, Bool, true, List, length, Option, Some, None, refl, sym, ap, ◌∙◌, subst, arith}
-use Rattle.c_lexer.specs.declared.token.Token.{Token}
+use Rattle.c_grammar.specs.declared.token.Token.{Token}
 use Rattle.c_expressions.specs.declared.parse_error.ParseError.{ParseError}
 use Rattle.c_expressions.specs.declared.parse_error.ParseError.TheVariants as error
-use Rattle.c_expressions.specs.Tokens.{brace_close}
-use Rattle.c_statements.specs.Scopes.{Scope}
-use Rattle.c_expressions.specs.ParseSteps.{◌>>=◌, Fails, after}
+use Rattle.c_grammar.specs.Tokens.{brace_close}
+use Rattle.c_grammar.specs.Scopes.{Scope}
+use Rattle.c_expressions.specs.Code.ParseSteps.{◌>>=◌, Fails, after}
 use Rattle.c_lang.specs.declared.unit.Unit.{Unit}
-use Rattle.c_statements.specs.StatementReading.{Read, chain, items_by, items, stmt_at, stmt}
+use Rattle.c_statements.specs.Code.StatementReading.{Read, chain, items_by, items, stmt_at, stmt}
 
 module _ (inner : Bool → Bool → Scope → List Token → Option Read) (d : ℕ) (in_loop : Bool) where
   -- enough turns are left for the whole

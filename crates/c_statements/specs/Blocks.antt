@@ -1,13 +1,13 @@
 -- The statements of a function's body: which tokens they are, and what they become.
 use Rattle.std.specs.Prelude.{⊤, ◌≡◌, ℕ, ◌≤◌, false, List, ◌∷◌, ◌++◌}
 use Rattle.c_lang.specs.declared.unit.Unit.{Unit}
-use Rattle.c_lexer.specs.declared.token.Token.{Token}
+use Rattle.c_grammar.specs.declared.token.Token.{Token}
 use Rattle.c_expressions.specs.declared.parse_error.ParseError.{ParseError}
 use Rattle.c_expressions.specs.declared.parse_error.ParseError.TheVariants as error
-use Rattle.c_expressions.specs.Tokens.{At, mark, brace_close}
-use Rattle.c_statements.specs.Scopes.{Scope}
-use Rattle.c_statements.specs.Statements.{Pieces, pieces_tokens, pieces_height, pieces_stmts, pieces_scope, ArePieces}
-use Rattle.c_statements.specs.StatementReading.{Read, made}
+use Rattle.c_grammar.specs.Tokens.{At, mark, brace_close}
+use Rattle.c_grammar.specs.Scopes.{Scope}
+use Rattle.c_grammar.specs.Statements.{Pieces, pieces_tokens, pieces_height, pieces_stmts, pieces_scope, ArePieces}
+use Rattle.c_statements.specs.Code.StatementReading.{Read, made}
 
 -- The tokens are statements that are at most so high, then `}` and the rest of the answer; the
 -- answer is what the statements become where so much was declared before.

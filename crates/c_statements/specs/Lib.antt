@@ -1,5 +1,2 @@
-pub mod Scopes
-pub mod Statements
-pub mod StatementReading
-pub mod Seen
 pub mod Blocks
+pub mod Code

@@ -1,18 +1,17 @@
 //! A client's choice between a call for the time after the update and one for the time before.
 
 ghost use Rattle.std.specs.Prelude.{◌≡◌, ◌≤◌, ◌<◌, ◌+◌, ◌-◌, ◌^◌, length, IfOk, IfSome, Some, option_map};
-ghost use Rattle.c_expressions.specs.ParseSteps.{Gives};
-ghost use Rattle.c_statements.specs.StatementReading as spec;
-ghost use Rattle.c_statements.specs.Seen.{seen_called, seen_one, seen_scope, seen_read, IsWithin};
+ghost use Rattle.c_expressions.specs.Code.ParseSteps.{Gives};
+ghost use Rattle.c_statements.specs.Code.StatementReading as spec;
+ghost use Rattle.c_statements.specs.Code.Seen.{seen_called, seen_one, seen_scope, seen_read, IsWithin};
 
 use crate::right::{Called, call_at};
 use crate::scope::{Scope, is_client};
 use crate::simple::{Parsed, call_to, only};
 use c_expressions::front::{after, after_key, name_at, skip, skip_key};
 use c_expressions::parse_error::ParseError;
-use c_expressions::words;
 use c_lang::{Dest, Name, Pos, Stmt, Unit};
-use c_lexer::{Token, Word};
+use c_lexer::{Token, Word, keyword, punctuator};
 use sqlite_items::Boxed;
 use std::alloc::Global;
 
@@ -30,7 +29,7 @@ fn end_one(pos: Pos, dest: Dest, called: Called<'_>) -> Result<One<'_>, ParseErr
     ensures height { IfOk result (λ x. x.height ≡ called.entry.height + 1) }
     ensures rest { IfOk result (λ x. length x.rest.now < length called.entry.rest.now) }
 {
-    let rest = after(words::SEMICOLON, called.rest)?;
+    let rest = after(punctuator::SEMICOLON, called.rest)?;
     Ok(One {
         stmt: call_to(pos, dest, called.call),
         height: called.height + 1,
@@ -48,12 +47,12 @@ fn call_behind<'a>(
     ensures height { IfOk result (λ x. x.height ≤ below) }
     ensures rest { IfOk result (λ x. length x.rest.now < length tokens.now) }
 {
-    let inside = after(words::ROUND_OPEN, tokens)?;
+    let inside = after(punctuator::ROUND_OPEN, tokens)?;
     call_at(alloc, below, callee, inside)
 }
 
 /// `below` bounds the height of the call alone.
-#[tactic(auto, unfolding(crate::specs::StatementReading::one_at))]
+#[tactic(auto, unfolding(crate::specs::Code::StatementReading::one_at))]
 fn one_at(alloc: Global, below: u32, tokens: &[Token]) -> Result<One<'_>, ParseError>
     requires { below + 1 < 2 ^ 32 }
     ensures read { Gives seen_one result (spec.one_at below tokens.now) }
@@ -66,7 +65,7 @@ fn one_at(alloc: Global, below: u32, tokens: &[Token]) -> Result<One<'_>, ParseE
     let Word::Ident(name) = &first.what else {
         return Err(ParseError::Syntax(tokens.len()));
     };
-    match skip(words::EQUALS, rest) {
+    match skip(punctuator::EQUALS, rest) {
         None => end_one(
             first.pos,
             Dest::Nowhere,
@@ -82,18 +81,18 @@ fn one_at(alloc: Global, below: u32, tokens: &[Token]) -> Result<One<'_>, ParseE
     }
 }
 
-#[tactic(auto, unfolding(crate::specs::StatementReading::side_of_pick))]
+#[tactic(auto, unfolding(crate::specs::Code::StatementReading::side_of_pick))]
 fn side_of_pick(alloc: Global, below: u32, tokens: &[Token]) -> Result<One<'_>, ParseError>
     requires { below + 1 < 2 ^ 32 }
     ensures read { Gives seen_one result (spec.side_of_pick below tokens.now) }
     ensures height { IfOk result (λ x. x.height ≤ below + 1) }
     ensures rest { IfOk result (λ x. length x.rest.now < length tokens.now) }
 {
-    match skip(words::BRACE_OPEN, tokens) {
+    match skip(punctuator::BRACE_OPEN, tokens) {
         None => one_at(alloc, below, tokens),
         Some(inside) => {
             let one = one_at(alloc, below, inside)?;
-            let rest = after(words::BRACE_CLOSE, one.rest)?;
+            let rest = after(punctuator::BRACE_CLOSE, one.rest)?;
             Ok(One {
                 stmt: one.stmt,
                 height: one.height,
@@ -108,11 +107,11 @@ pub fn updated_at(tokens: &[Token]) -> Option<&[Token]>
     ensures value { option_map (λ rest. rest.now) result ≡ spec.updated_at tokens.now }
     ensures rest { IfSome result (λ rest. length rest.now < length tokens.now) }
 {
-    skip_key(words::DSU_UPDATED, skip(words::ROUND_OPEN, tokens)?)
+    skip_key(keyword::DSU_UPDATED, skip(punctuator::ROUND_OPEN, tokens)?)
 }
 
 /// A pick, behind `if (dsu_updated`.
-#[tactic(auto, unfolding(crate::specs::StatementReading::pick_at))]
+#[tactic(auto, unfolding(crate::specs::Code::StatementReading::pick_at))]
 pub fn pick_at(
     alloc: Global,
     unit: Unit,
@@ -128,11 +127,11 @@ pub fn pick_at(
     if !is_client(unit) || below < 3 {
         return Err(ParseError::Syntax(tokens.len() + 1));
     }
-    let opened = after(words::ROUND_OPEN, tokens)?;
-    let closed = after(words::ROUND_CLOSE, opened)?;
-    let inside = after(words::ROUND_CLOSE, closed)?;
+    let opened = after(punctuator::ROUND_OPEN, tokens)?;
+    let closed = after(punctuator::ROUND_CLOSE, opened)?;
+    let inside = after(punctuator::ROUND_CLOSE, closed)?;
     let later = side_of_pick(alloc, below - 1, inside)?;
-    let other = after_key(words::ELSE, later.rest)?;
+    let other = after_key(keyword::ELSE, later.rest)?;
     let earlier = side_of_pick(alloc, below - 1, other)?;
     let height = later.height.max(earlier.height) + 1;
     let after = Boxed::new(alloc, later.stmt)?;

@@ -1,15 +1,14 @@
 //! Pointers to functions, behind their `int`.
 
 ghost use Rattle.std.specs.Prelude.{◌≡◌, ◌≤◌, ◌<◌, ◌+◌, length, IfOk};
-ghost use Rattle.c_expressions.specs.ParseSteps.{Gives, separated};
-ghost use Rattle.c_statements.specs.StatementReading as spec;
-ghost use Rattle.c_statements.specs.Seen.{seen_pointer};
+ghost use Rattle.c_expressions.specs.Code.ParseSteps.{Gives, separated};
+ghost use Rattle.c_statements.specs.Code.StatementReading as spec;
+ghost use Rattle.c_statements.specs.Code.Seen.{seen_pointer};
 
 use c_expressions::front::{after, after_key, name_at, skip, skip_key};
 use c_expressions::parse_error::ParseError;
-use c_expressions::words;
 use c_lang::Name;
-use c_lexer::Token;
+use c_lexer::{Token, keyword, punctuator};
 
 /// A pointer's name, the number of its parameters, or 33 where it has more than 32, and what
 /// follows it.
@@ -26,7 +25,7 @@ fn count_int(count: u8, tokens: &[Token]) -> Result<(u8, &[Token]), ParseError>
     ensures count { IfOk result (λ x. x.0 ≤ 33) }
     ensures rest { IfOk result (λ x. length x.1.now < length tokens.now) }
 {
-    let rest = after_key(words::INT, tokens)?;
+    let rest = after_key(keyword::INT, tokens)?;
     Ok(((count + 1).min(33), rest))
 }
 
@@ -39,7 +38,7 @@ fn ints(tokens: &[Token]) -> Result<(u8, &[Token]), ParseError>
     let mut rest = tokens;
     loop {
         let next = count_int(count, rest)?;
-        match skip(words::COMMA, next.1) {
+        match skip(punctuator::COMMA, next.1) {
             None => return Ok(next),
             Some(others) => {
                 count = next.0;
@@ -49,38 +48,38 @@ fn ints(tokens: &[Token]) -> Result<(u8, &[Token]), ParseError>
     }
 }
 
-#[tactic(auto, unfolding(crate::specs::StatementReading::ints_at))]
+#[tactic(auto, unfolding(crate::specs::Code::StatementReading::ints_at))]
 fn ints_at(tokens: &[Token]) -> Result<(u8, &[Token]), ParseError>
     ensures read { Gives (λ x. (x.0, x.1.now)) result (spec.ints_at tokens.now) }
     ensures count { IfOk result (λ x. x.0 ≤ 33) }
     ensures rest { IfOk result (λ x. length x.1.now < length tokens.now) }
 {
-    if let Some(rest) = skip(words::ROUND_CLOSE, tokens) {
+    if let Some(rest) = skip(punctuator::ROUND_CLOSE, tokens) {
         return Ok((0, rest));
     }
-    match skip_key(words::VOID, tokens) {
-        Some(inside) => Ok((0, after(words::ROUND_CLOSE, inside)?)),
+    match skip_key(keyword::VOID, tokens) {
+        Some(inside) => Ok((0, after(punctuator::ROUND_CLOSE, inside)?)),
         None => {
             let (count, closing) = ints(tokens)?;
-            Ok((count, after(words::ROUND_CLOSE, closing)?))
+            Ok((count, after(punctuator::ROUND_CLOSE, closing)?))
         }
     }
 }
 
 /// `(*NAME)(int, int)`.
-#[tactic(auto, unfolding(crate::specs::StatementReading::pointer_at))]
+#[tactic(auto, unfolding(crate::specs::Code::StatementReading::pointer_at))]
 pub fn pointer_at(tokens: &[Token]) -> Result<Pointer<'_>, ParseError>
     ensures read { Gives seen_pointer result (spec.pointer_at tokens.now) }
     ensures arity { IfOk result (λ x. x.arity ≤ 33) }
     ensures rest { IfOk result (λ x. length x.rest.now < length tokens.now) }
 {
-    let star = after(words::ROUND_OPEN, tokens)?;
-    let named = after(words::STAR, star)?;
+    let star = after(punctuator::ROUND_OPEN, tokens)?;
+    let named = after(punctuator::STAR, star)?;
     let Some((name, closing)) = name_at(named) else {
         return Err(ParseError::Syntax(named.len()));
     };
-    let params = after(words::ROUND_CLOSE, closing)?;
-    let inside = after(words::ROUND_OPEN, params)?;
+    let params = after(punctuator::ROUND_CLOSE, closing)?;
+    let inside = after(punctuator::ROUND_OPEN, params)?;
     let (arity, rest) = ints_at(inside)?;
     Ok(Pointer { name, arity, rest })
 }

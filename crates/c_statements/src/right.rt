@@ -1,17 +1,16 @@
 //! Right sides: an expression, or a call.
 
 ghost use Rattle.std.specs.Prelude.{◌≡◌, ◌≤◌, ◌<◌, ◌+◌, ◌-◌, ◌^◌, max, length, IfOk};
-ghost use Rattle.c_expressions.specs.ParseSteps.{Gives, separated};
-ghost use Rattle.c_statements.specs.StatementReading as spec;
-ghost use Rattle.c_statements.specs.Seen.{seen_args, seen_called, seen_side};
+ghost use Rattle.c_expressions.specs.Code.ParseSteps.{Gives, separated};
+ghost use Rattle.c_statements.specs.Code.StatementReading as spec;
+ghost use Rattle.c_statements.specs.Code.Seen.{seen_args, seen_called, seen_side};
 
 use crate::scope::is_merge;
 use c_expressions::expressions::expression;
 use c_expressions::front::{after, number_at, skip};
 use c_expressions::parse_error::ParseError;
-use c_expressions::words;
 use c_lang::{Expr, Name, Unit};
-use c_lexer::{Token, Word};
+use c_lexer::{Token, Word, keyword, punctuator};
 use sqlite_items::Items;
 use std::alloc::Global;
 
@@ -78,7 +77,7 @@ fn arguments(alloc: Global, below: u32, tokens: &[Token]) -> Result<(Args, &[Tok
     let mut rest = tokens;
     loop {
         let next = argument(alloc, below, args, rest)?;
-        match skip(words::COMMA, next.1) {
+        match skip(punctuator::COMMA, next.1) {
             None => return Ok(next),
             Some(others) => {
                 args = next.0;
@@ -89,7 +88,7 @@ fn arguments(alloc: Global, below: u32, tokens: &[Token]) -> Result<(Args, &[Tok
 }
 
 /// The call of a function, behind the opening bracket.
-#[tactic(auto, unfolding(crate::specs::StatementReading::call_at))]
+#[tactic(auto, unfolding(crate::specs::Code::StatementReading::call_at))]
 pub fn call_at<'a>(
     alloc: Global,
     below: u32,
@@ -103,7 +102,7 @@ pub fn call_at<'a>(
     if below < 2 {
         return Err(ParseError::Syntax(tokens.len() + 1));
     }
-    if let Some(rest) = skip(words::ROUND_CLOSE, tokens) {
+    if let Some(rest) = skip(punctuator::ROUND_CLOSE, tokens) {
         return Ok(Called {
             call: Call::Function(callee.copy(alloc)?, Items::new(alloc)),
             height: 2,
@@ -111,7 +110,7 @@ pub fn call_at<'a>(
         });
     }
     let (args, tokens) = arguments(alloc, below - 1, tokens)?;
-    let rest = after(words::ROUND_CLOSE, tokens)?;
+    let rest = after(punctuator::ROUND_CLOSE, tokens)?;
     Ok(Called {
         call: Call::Function(callee.copy(alloc)?, args.exprs),
         height: args.height + 1,
@@ -120,7 +119,7 @@ pub fn call_at<'a>(
 }
 
 /// `client_in()`, behind its keyword.
-#[tactic(auto, unfolding(crate::specs::StatementReading::input_at))]
+#[tactic(auto, unfolding(crate::specs::Code::StatementReading::input_at))]
 pub fn input_at(below: u32, tokens: &[Token]) -> Result<Called<'_>, ParseError>
     ensures read { Gives seen_called result (spec.input_at below tokens.now) }
     ensures height { IfOk result (λ x. x.height ≤ below) }
@@ -129,8 +128,8 @@ pub fn input_at(below: u32, tokens: &[Token]) -> Result<Called<'_>, ParseError>
     if below == 0 {
         return Err(ParseError::Syntax(tokens.len() + 1));
     }
-    let inside = after(words::ROUND_OPEN, tokens)?;
-    let rest = after(words::ROUND_CLOSE, inside)?;
+    let inside = after(punctuator::ROUND_OPEN, tokens)?;
+    let rest = after(punctuator::ROUND_CLOSE, inside)?;
     Ok(Called {
         call: Call::Input,
         height: 1,
@@ -139,7 +138,7 @@ pub fn input_at(below: u32, tokens: &[Token]) -> Result<Called<'_>, ParseError>
 }
 
 /// `dsu_choice(k)`, behind its keyword.
-#[tactic(auto, unfolding(crate::specs::StatementReading::choice_at))]
+#[tactic(auto, unfolding(crate::specs::Code::StatementReading::choice_at))]
 pub fn choice_at(unit: Unit, below: u32, tokens: &[Token]) -> Result<Called<'_>, ParseError>
     ensures read { Gives seen_called result (spec.choice_at unit below tokens.now) }
     ensures height { IfOk result (λ x. x.height ≤ below) }
@@ -148,11 +147,11 @@ pub fn choice_at(unit: Unit, below: u32, tokens: &[Token]) -> Result<Called<'_>,
     if !is_merge(unit) || below < 2 {
         return Err(ParseError::Syntax(tokens.len() + 1));
     }
-    let inside = after(words::ROUND_OPEN, tokens)?;
+    let inside = after(punctuator::ROUND_OPEN, tokens)?;
     let Some((k, closing)) = number_at(inside) else {
         return Err(ParseError::Syntax(inside.len()));
     };
-    let rest = after(words::ROUND_CLOSE, closing)?;
+    let rest = after(punctuator::ROUND_CLOSE, closing)?;
     Ok(Called {
         call: Call::Choice(k),
         height: 2,
@@ -186,7 +185,7 @@ fn call_side(call: Called<'_>) -> Side<'_>
 }
 
 /// A right side that is at most `below` high.
-#[tactic(auto, unfolding(crate::specs::StatementReading::right_side))]
+#[tactic(auto, unfolding(crate::specs::Code::StatementReading::right_side))]
 pub fn right_side(
     alloc: Global,
     unit: Unit,
@@ -201,12 +200,12 @@ pub fn right_side(
         return Err(ParseError::Syntax(0));
     };
     match &first.what {
-        Word::Ident(name) => match skip(words::ROUND_OPEN, rest) {
+        Word::Ident(name) => match skip(punctuator::ROUND_OPEN, rest) {
             Some(inside) => Ok(call_side(call_at(alloc, below, name, inside)?)),
             None => value(alloc, below, tokens),
         },
-        Word::Key(words::CLIENT_IN) => Ok(call_side(input_at(below, rest)?)),
-        Word::Key(words::DSU_CHOICE) => Ok(call_side(choice_at(unit, below, rest)?)),
+        Word::Key(keyword::CLIENT_IN) => Ok(call_side(input_at(below, rest)?)),
+        Word::Key(keyword::DSU_CHOICE) => Ok(call_side(choice_at(unit, below, rest)?)),
         Word::Key(_) => Err(ParseError::Syntax(tokens.len())),
         _ => value(alloc, below, tokens),
     }

@@ -2,8 +2,8 @@
 //! declarations are refused for.
 
 ghost use Rattle.std.specs.Prelude.{◌≡◌, ◌+◌, ◌^◌, ◌<◌, ◌≤◌, IfOk};
-ghost use Rattle.c_statements.specs.Scopes as spec;
-ghost use Rattle.c_statements.specs.Seen.{seen_scope};
+ghost use Rattle.c_grammar.specs.Scopes as spec;
+ghost use Rattle.c_statements.specs.Code.Seen.{seen_scope};
 
 use c_lang::{Name, Pos, Refusal, Unit};
 use indexmap::IndexSet;

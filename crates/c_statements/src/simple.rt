@@ -1,11 +1,11 @@
 //! Statements and declarations that have no bodies.
 
 ghost use Rattle.std.specs.Prelude.{[], ◌∷◌, ◌≡◌, ◌≤◌, ◌<◌, ◌+◌, ◌^◌, length, IfOk, Some};
-ghost use Rattle.c_expressions.specs.ParseSteps.{Gives};
-ghost use Rattle.c_statements.specs.Statements as grammar;
-ghost use Rattle.c_statements.specs.StatementReading as spec;
-ghost use Rattle.c_expressions.specs.Seen.{seen};
-ghost use Rattle.c_statements.specs.Seen.{seen_scope, seen_called, seen_read, IsWithin};
+ghost use Rattle.c_expressions.specs.Code.ParseSteps.{Gives};
+ghost use Rattle.c_grammar.specs.Statements as grammar;
+ghost use Rattle.c_statements.specs.Code.StatementReading as spec;
+ghost use Rattle.c_expressions.specs.Code.Seen.{seen};
+ghost use Rattle.c_statements.specs.Code.Seen.{seen_scope, seen_called, seen_read, IsWithin};
 
 use crate::pointer::pointer_at;
 use crate::right::{Call, Called, Right, call_at, right_side};
@@ -15,9 +15,8 @@ use crate::scope::{
 use c_expressions::expressions::{Found, expression};
 use c_expressions::front::{after, name_at, number_at, skip};
 use c_expressions::parse_error::ParseError;
-use c_expressions::words;
 use c_lang::{Dest, Expr, Kind, Name, Pos, Stmt, Unit};
-use c_lexer::{Token, Word};
+use c_lexer::{Token, Word, punctuator};
 use sqlite_items::Items;
 use std::alloc::{AllocError, Global};
 
@@ -51,7 +50,7 @@ pub fn done(
     ensures count { IfOk result (λ x. x.scope.count ≡ scope.count) }
     ensures rest { IfOk result (λ x. length x.rest.now < length tokens.now) }
 {
-    let rest = after(words::SEMICOLON, tokens)?;
+    let rest = after(punctuator::SEMICOLON, tokens)?;
     Ok(Parsed {
         stmts,
         height,
@@ -190,7 +189,7 @@ fn returned(
 }
 
 /// `NAME = ..;`, behind the `=`.
-#[tactic(auto, unfolding(crate::specs::StatementReading::assign))]
+#[tactic(auto, unfolding(crate::specs::Code::StatementReading::assign))]
 fn assign<'a>(
     alloc: Global,
     unit: Unit,
@@ -212,7 +211,7 @@ fn assign<'a>(
 }
 
 /// `NAME[..] = ..;`, behind the `[`.
-#[tactic(auto, unfolding(crate::specs::StatementReading::assign_element))]
+#[tactic(auto, unfolding(crate::specs::Code::StatementReading::assign_element))]
 fn assign_element<'a>(
     alloc: Global,
     unit: Unit,
@@ -228,8 +227,8 @@ fn assign_element<'a>(
     ensures within { IfOk result (λ x. IsWithin (below + 1) scope tokens.now x) }
 {
     let index = expression(alloc, below, 1, tokens)?;
-    let equals = after(words::SQUARE_CLOSE, index.rest)?;
-    let given = after(words::EQUALS, equals)?;
+    let equals = after(punctuator::SQUARE_CLOSE, index.rest)?;
+    let given = after(punctuator::EQUALS, equals)?;
     let side = right_side(alloc, unit, below, given)?;
     let height = index.height.max(side.height) + 1;
     let (stmts, scope) = set_element(alloc, pos, name.copy(alloc)?, index.expr, scope, side.right)?;
@@ -255,7 +254,7 @@ pub fn run(
 }
 
 /// A statement that begins with a name, behind the name.
-#[tactic(auto, unfolding(crate::specs::StatementReading::named_stmt))]
+#[tactic(auto, unfolding(crate::specs::Code::StatementReading::named_stmt))]
 pub fn named<'a>(
     alloc: Global,
     unit: Unit,
@@ -274,18 +273,18 @@ pub fn named<'a>(
         return Err(ParseError::Syntax(0));
     };
     match &first.what {
-        Word::Punct(words::EQUALS) => assign(alloc, unit, below, pos, name, scope, rest),
-        Word::Punct(words::SQUARE_OPEN) => {
+        Word::Punct(punctuator::EQUALS) => assign(alloc, unit, below, pos, name, scope, rest),
+        Word::Punct(punctuator::SQUARE_OPEN) => {
             assign_element(alloc, unit, below, pos, name, scope, rest)
         }
-        Word::Punct(words::ROUND_OPEN) => {
+        Word::Punct(punctuator::ROUND_OPEN) => {
             run(alloc, pos, scope, call_at(alloc, below, name, rest)?)
         }
         _ => Err(ParseError::Syntax(tokens.len())),
     }
 }
 
-#[tactic(auto, unfolding(crate::specs::StatementReading::declare_int))]
+#[tactic(auto, unfolding(crate::specs::Code::StatementReading::declare_int))]
 fn declare_int<'a>(
     alloc: Global,
     unit: Unit,
@@ -299,7 +298,7 @@ fn declare_int<'a>(
     ensures read { Gives seen_read result (spec.declare_int unit below pos name.now (seen_scope scope) tokens.now) }
     ensures within { IfOk result (λ x. IsWithin (below + 1) scope tokens.now x) }
 {
-    let given = after(words::EQUALS, tokens)?;
+    let given = after(punctuator::EQUALS, tokens)?;
     let side = right_side(alloc, unit, below, given)?;
     let height = side.height + 1;
     let dest = Dest::Fresh(Kind::Int, name.copy(alloc)?);
@@ -308,7 +307,7 @@ fn declare_int<'a>(
     done(stmts, height, scope, side.rest)
 }
 
-#[tactic(auto, unfolding(crate::specs::StatementReading::declare_pointer))]
+#[tactic(auto, unfolding(crate::specs::Code::StatementReading::declare_pointer))]
 fn declare_pointer<'a>(
     alloc: Global,
     unit: Unit,
@@ -322,7 +321,7 @@ fn declare_pointer<'a>(
     ensures within { IfOk result (λ x. IsWithin (below + 1) scope tokens.now x) }
 {
     let pointer = pointer_at(tokens)?;
-    let given = after(words::EQUALS, pointer.rest)?;
+    let given = after(punctuator::EQUALS, pointer.rest)?;
     let side = right_side(alloc, unit, below, given)?;
     let height = side.height + 1;
     let dest = Dest::Fresh(Kind::Fp(pointer.arity), pointer.name.copy(alloc)?);
@@ -352,7 +351,7 @@ pub fn declaration<'a>(
 }
 
 /// `return`, behind its keyword.
-#[tactic(auto, unfolding(crate::specs::StatementReading::return_at))]
+#[tactic(auto, unfolding(crate::specs::Code::StatementReading::return_at))]
 pub fn return_at<'a>(
     alloc: Global,
     unit: Unit,
@@ -366,7 +365,7 @@ pub fn return_at<'a>(
     ensures read { Gives seen_read result (spec.return_at unit below pos (seen_scope scope) tokens.now) }
     ensures within { IfOk result (λ x. IsWithin (below + 1) scope tokens.now x) }
 {
-    if let Some(rest) = skip(words::SEMICOLON, tokens) {
+    if let Some(rest) = skip(punctuator::SEMICOLON, tokens) {
         return Ok(Parsed {
             stmts: only(alloc, Stmt::Return { pos, value: None })?,
             height: 1,
@@ -382,15 +381,15 @@ pub fn return_at<'a>(
 }
 
 /// An expression in the brackets of its statement.
-#[tactic(auto, unfolding(crate::specs::StatementReading::condition))]
+#[tactic(auto, unfolding(crate::specs::Code::StatementReading::condition))]
 pub fn condition(alloc: Global, below: u32, tokens: &[Token]) -> Result<Found<'_>, ParseError>
     ensures read { Gives seen result (spec.condition below tokens.now) }
     ensures height { IfOk result (λ x. x.height ≤ below) }
     ensures rest { IfOk result (λ x. length x.rest.now < length tokens.now) }
 {
-    let inside = after(words::ROUND_OPEN, tokens)?;
+    let inside = after(punctuator::ROUND_OPEN, tokens)?;
     let found = expression(alloc, below, 1, inside)?;
-    let rest = after(words::ROUND_CLOSE, found.rest)?;
+    let rest = after(punctuator::ROUND_CLOSE, found.rest)?;
     Ok(Found {
         expr: found.expr,
         height: found.height,
@@ -447,7 +446,7 @@ pub fn output_at(
 }
 
 /// `dsu_update(k);`, behind its keyword.
-#[tactic(auto, unfolding(crate::specs::StatementReading::point_at))]
+#[tactic(auto, unfolding(crate::specs::Code::StatementReading::point_at))]
 pub fn point_at(
     alloc: Global,
     unit: Unit,
@@ -462,16 +461,16 @@ pub fn point_at(
     if is_merge(unit) || below == 0 {
         return Err(ParseError::Syntax(tokens.len() + 1));
     }
-    let inside = after(words::ROUND_OPEN, tokens)?;
+    let inside = after(punctuator::ROUND_OPEN, tokens)?;
     let Some((k, closing)) = number_at(inside) else {
         return Err(ParseError::Syntax(inside.len()));
     };
-    let end = after(words::ROUND_CLOSE, closing)?;
+    let end = after(punctuator::ROUND_CLOSE, closing)?;
     done(only(alloc, Stmt::Point { pos, k })?, 2, scope, end)
 }
 
 /// `dsu_force();`, behind its keyword.
-#[tactic(auto, unfolding(crate::specs::StatementReading::force_at))]
+#[tactic(auto, unfolding(crate::specs::Code::StatementReading::force_at))]
 pub fn force_at(
     alloc: Global,
     unit: Unit,
@@ -485,7 +484,7 @@ pub fn force_at(
     if !is_client(unit) {
         return Err(ParseError::Syntax(tokens.len() + 1));
     }
-    let inside = after(words::ROUND_OPEN, tokens)?;
-    let end = after(words::ROUND_CLOSE, inside)?;
+    let inside = after(punctuator::ROUND_OPEN, tokens)?;
+    let end = after(punctuator::ROUND_CLOSE, inside)?;
     done(only(alloc, Stmt::Force { pos })?, 1, scope, end)
 }

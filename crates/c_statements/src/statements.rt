@@ -2,14 +2,14 @@
 
 ghost use Rattle.std.specs.Prelude.{◌≡◌, ◌≤◌, ◌<◌, ◌+◌, ◌^◌, ℕ, List, length, IfOk, MatchResult};
 ghost use Rattle.c_lang.specs.declared.unit.Unit.{Unit};
-ghost use Rattle.c_lexer.specs.declared.token.Token.{Token};
+ghost use Rattle.c_grammar.specs.declared.token.Token.{Token};
 ghost use Rattle.c_statements.specs.Blocks.{IsBlock, IsNoBlock};
-ghost use Rattle.c_statements.specs.Scopes as scopes;
-ghost use Rattle.c_statements.specs.StatementReading.{Read};
-ghost use Rattle.c_expressions.specs.ParseSteps.{Gives};
-ghost use Rattle.c_statements.specs.StatementReading as spec;
-ghost use Rattle.c_expressions.specs.Seen.{seen};
-ghost use Rattle.c_statements.specs.Seen.{seen_scope, seen_read, IsWithin};
+ghost use Rattle.c_grammar.specs.Scopes as scopes;
+ghost use Rattle.c_statements.specs.Code.StatementReading.{Read};
+ghost use Rattle.c_expressions.specs.Code.ParseSteps.{Gives};
+ghost use Rattle.c_statements.specs.Code.StatementReading as spec;
+ghost use Rattle.c_expressions.specs.Code.Seen.{seen};
+ghost use Rattle.c_statements.specs.Code.Seen.{seen_scope, seen_read, IsWithin};
 
 use crate::pick::{pick_at, updated_at};
 use crate::right::{choice_at, input_at};
@@ -21,9 +21,8 @@ use crate::simple::{
 use c_expressions::expressions::Found;
 use c_expressions::front::{skip, skip_key};
 use c_expressions::parse_error::ParseError;
-use c_expressions::words;
 use c_lang::{Pos, Stmt, Unit};
-use c_lexer::{Token, Word};
+use c_lexer::{Token, Word, keyword, punctuator};
 use sqlite_items::Items;
 use std::alloc::{AllocError, Global};
 
@@ -144,7 +143,7 @@ pub fn items<'a>(
         rest: tokens,
     };
     loop {
-        if let Some(rest) = skip(words::BRACE_CLOSE, so_far.rest) {
+        if let Some(rest) = skip(punctuator::BRACE_CLOSE, so_far.rest) {
             return Ok(Parsed {
                 stmts: so_far.stmts,
                 height: so_far.height,
@@ -167,7 +166,7 @@ pub fn items<'a>(
 }
 
 #[cycle(stmt)]
-#[tactic(auto, unfolding(crate::specs::StatementReading::body))]
+#[tactic(auto, unfolding(crate::specs::Code::StatementReading::body))]
 fn body<'a>(
     alloc: Global,
     unit: Unit,
@@ -180,14 +179,14 @@ fn body<'a>(
     ensures read { Gives seen_read result (spec.body (spec.stmt unit below) below in_loop (seen_scope scope) tokens.now) }
     ensures within { IfOk result (λ x. IsWithin below scope tokens.now x) }
 {
-    match skip(words::BRACE_OPEN, tokens) {
+    match skip(punctuator::BRACE_OPEN, tokens) {
         Some(inside) => items(alloc, unit, below, in_loop, scope, inside),
         None => stmt(alloc, unit, below, false, in_loop, scope, tokens),
     }
 }
 
 #[cycle(stmt)]
-#[tactic(auto, unfolding(crate::specs::StatementReading::branch))]
+#[tactic(auto, unfolding(crate::specs::Code::StatementReading::branch))]
 fn branch<'a>(
     alloc: Global,
     unit: Unit,
@@ -204,7 +203,7 @@ fn branch<'a>(
 {
     let cond = condition(alloc, below, tokens)?;
     let yes = body(alloc, unit, below, in_loop, scope, cond.rest)?;
-    match skip_key(words::ELSE, yes.rest) {
+    match skip_key(keyword::ELSE, yes.rest) {
         None => Ok(if_only(alloc, pos, cond, yes)?),
         Some(rest) => {
             let ended = Ended {
@@ -218,7 +217,7 @@ fn branch<'a>(
 }
 
 #[cycle(stmt)]
-#[tactic(auto, unfolding(crate::specs::StatementReading::repeat))]
+#[tactic(auto, unfolding(crate::specs::Code::StatementReading::repeat))]
 fn repeat<'a>(
     alloc: Global,
     unit: Unit,
@@ -238,7 +237,7 @@ fn repeat<'a>(
 }
 
 /// A statement that begins with a keyword and has no bodies, behind the keyword.
-#[tactic(auto, unfolding(crate::specs::StatementReading::keyword_stmt))]
+#[tactic(auto, unfolding(crate::specs::Code::StatementReading::keyword_stmt))]
 fn keyword<'a>(
     alloc: Global,
     unit: Unit,
@@ -254,13 +253,13 @@ fn keyword<'a>(
     ensures within { IfOk result (λ x. IsWithin (below + 1) scope tokens.now x) }
 {
     match key {
-        words::RETURN => return_at(alloc, unit, below, pos, scope, tokens),
-        words::ASSERT => assert_at(alloc, below, pos, scope, tokens),
-        words::CLIENT_OUT => output_at(alloc, below, pos, scope, tokens),
-        words::CLIENT_IN => run(alloc, pos, scope, input_at(below, tokens)?),
-        words::DSU_CHOICE => run(alloc, pos, scope, choice_at(unit, below, tokens)?),
-        words::DSU_UPDATE => point_at(alloc, unit, below, pos, scope, tokens),
-        words::DSU_FORCE => force_at(alloc, unit, pos, scope, tokens),
+        keyword::RETURN => return_at(alloc, unit, below, pos, scope, tokens),
+        keyword::ASSERT => assert_at(alloc, below, pos, scope, tokens),
+        keyword::CLIENT_OUT => output_at(alloc, below, pos, scope, tokens),
+        keyword::CLIENT_IN => run(alloc, pos, scope, input_at(below, tokens)?),
+        keyword::DSU_CHOICE => run(alloc, pos, scope, choice_at(unit, below, tokens)?),
+        keyword::DSU_UPDATE => point_at(alloc, unit, below, pos, scope, tokens),
+        keyword::DSU_FORCE => force_at(alloc, unit, pos, scope, tokens),
         _ => Err(ParseError::Syntax(tokens.len() + 1)),
     }
 }
@@ -283,23 +282,23 @@ fn key_stmt<'a>(
     ensures read { Gives seen_read result (spec.key_stmt (spec.stmt unit below) below unit may_declare in_loop pos (seen_scope scope) key tokens.now) }
     ensures within { IfOk result (λ x. IsWithin (below + 1) scope tokens.now x) }
 {
-    if key == words::IF {
+    if key == keyword::IF {
         return match updated_at(tokens) {
             Some(inside) => pick_at(alloc, unit, below, pos, scope, inside),
             None => branch(alloc, unit, below, in_loop, pos, scope, tokens),
         };
     }
-    if key == words::WHILE {
+    if key == keyword::WHILE {
         return repeat(alloc, unit, below, pos, scope, tokens);
     }
-    if key == words::INT {
+    if key == keyword::INT {
         return if may_declare {
             declaration(alloc, unit, below, pos, scope, tokens)
         } else {
             Err(ParseError::Syntax(tokens.len() + 1))
         };
     }
-    if key == words::BREAK {
+    if key == keyword::BREAK {
         return if in_loop {
             done(only(alloc, Stmt::Break { pos })?, 1, scope, tokens)
         } else {
@@ -311,7 +310,7 @@ fn key_stmt<'a>(
 
 /// A statement, or where it may stand a declaration, whose parts are at most `below` high.
 #[cycle(stmt)]
-#[tactic(auto, unfolding(crate::specs::StatementReading::stmt_at))]
+#[tactic(auto, unfolding(crate::specs::Code::StatementReading::stmt_at))]
 fn stmt_at<'a>(
     alloc: Global,
     unit: Unit,
@@ -332,7 +331,7 @@ fn stmt_at<'a>(
     };
     let pos = first.pos;
     match &first.what {
-        Word::Punct(words::SEMICOLON) => Ok(Parsed {
+        Word::Punct(punctuator::SEMICOLON) => Ok(Parsed {
             stmts: only(alloc, Stmt::Skip { pos })?,
             height: 1,
             is_open: false,

@@ -25,7 +25,8 @@ use Rattle.c_types.specs.Checks.{at_place, first}
 use Rattle.c_types.specs.Endings.{can_end}
 use Rattle.c_types.specs.Statements.{block_in, entered, refusal_in}
 use Rattle.c_types.specs.Functions.{kinds_of, is_wide, any_wide, wrong_params_count, scope_of, with_param, params_block, wrong_params, is_main, wrong_end, wrong_head, body_scope, refusal_of_func}
-use Rattle.c_types.specs.Programs.{with_global, with_globals, with_func, with_funcs, outside_of, wrong_again, wrong_initial, early_number, wrong_shape, cells_of, wrong_cells, wrong_global, refusal_of_globals, cell_limit, wrong_match, wrong_proto, refusal_of_protos, refusal_of_funcs, has_main, wrong_main, first_early, first_line, refusal_of_declarations, refusal_of_whole, first_refusal}
+use Rattle.c_types.specs.Programs.{with_global, with_globals, with_func, with_funcs, outside_of, wrong_again, wrong_initial, early_number, wrong_shape, cells_of, wrong_cells, wrong_global, refusal_of_globals, wrong_match, wrong_proto, refusal_of_protos, refusal_of_funcs, has_main, wrong_main, first_early, first_line, refusal_of_declarations, refusal_of_whole, first_refusal}
+use Rattle.c_lang.specs.Limits.{cell_limit}
 use Rattle.c_types.specs.Typing.{IsNarrow}
 use Rattle.c_types.specs.Types.{IsInitial, IsHeld, IsTypedGlobal, AreTypedGlobals, AreNarrow, IsMatch, AreTypedProtos, AreParams, IsTypedFunc, AreTypedFuncs, Types}
 use Rattle.c_types.proofs.Combined.{some_none, both_none, smaller_none, first_none, none_first, at_none, none_at, test_false, test_true, not_some, either_false, both_true, same_sound, same_itself}

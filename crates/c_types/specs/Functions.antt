@@ -33,11 +33,11 @@ abbrev pub counted : ℕ → ℕ
 counted n = if nat_lt 32 n then 33 else n
 
 -- a function's name is a value where all parameters are ints and it gives one
-abbrev pub value_of : List Kind → Bool → Option ℕ
-value_of ks gives = if gives && are_ints ks then Some (counted (length ks)) else None
+abbrev pub arity_as_value : List Kind → Bool → Option ℕ
+arity_as_value ks gives = if gives && are_ints ks then Some (counted (length ks)) else None
 
 abbrev pub means_of_func : Func → Means
-means_of_func f = Code (kinds_of f.params) f.gives (value_of (kinds_of f.params) f.gives) None
+means_of_func f = Code (kinds_of f.params) f.gives (arity_as_value (kinds_of f.params) f.gives) None
 
 abbrev pub is_wide : Kind → Bool
 is_wide Int = false

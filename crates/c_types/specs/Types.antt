@@ -21,7 +21,8 @@ use Rattle.c_types.specs.Typing.{IsFunction, IsNarrow, IsFresh, AreTyped}
 use Rattle.c_types.specs.Endings.{can_end}
 use Rattle.c_types.specs.Statements.{block_in, entered}
 use Rattle.c_types.specs.Functions.{kinds_of, scope_of, with_param, params_block, body_scope, is_main}
-use Rattle.c_types.specs.Programs.{with_global, with_globals, with_func, with_funcs, outside_of, cells_of, cell_limit, has_main, first_refusal, resolved_program}
+use Rattle.c_types.specs.Programs.{with_global, with_globals, with_func, with_funcs, outside_of, cells_of, has_main, first_refusal, resolved_program}
+use Rattle.c_lang.specs.Limits.{cell_limit}
 
 -- ---- globals
 

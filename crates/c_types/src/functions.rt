@@ -44,8 +44,8 @@ fn counted(count: usize) -> u8
 }
 
 /// The number of parameters with which a function's name is a value, where it is one.
-pub fn value_of(kinds: &[Kind], gives: bool) -> Option<u8>
-    ensures { result ≡ spec.value_of kinds.now gives }
+pub fn arity_as_value(kinds: &[Kind], gives: bool) -> Option<u8>
+    ensures { result ≡ spec.arity_as_value kinds.now gives }
 {
     if gives && are_ints(kinds) {
         Some(counted(kinds.len()))
@@ -59,7 +59,7 @@ pub fn means_of_func(alloc: Global, f: &Func) -> Result<Means, AllocError>
     ensures { IfOk result (λ means. means ≡ spec.means_of_func f.now) }
 {
     let params = kinds_of(alloc, f.params.as_slice())?;
-    let value = value_of(params.as_slice(), f.gives);
+    let value = arity_as_value(params.as_slice(), f.gives);
     Ok(Means::Code {
         params,
         gives: f.gives,

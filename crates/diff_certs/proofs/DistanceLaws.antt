@@ -9,8 +9,8 @@ use Rattle.std.proofs.lemmas.Grind.{get_or-set_at}
 use Rattle.diff_certs.specs.declared.row.DiffRow.{DiffRow}
 use Rattle.diff_certs.specs.declared.walk.Reached.{Reached}
 use Rattle.diff_certs.specs.Rows.{IsInside}
-use Rattle.diff_certs.specs.Walks.{IsReached}
-use Rattle.diff_certs.specs.Distances.{AreReached, distance_at, height, weight, IsStart, IsEmpty}
+use Rattle.diff_certs.specs.Code.Walks.{IsReached}
+use Rattle.diff_certs.specs.Code.Distances.{AreReached, distance_at, height, weight, IsStart, IsEmpty}
 use Rattle.diff_certs.proofs.WalkLaws.{right-below, left-below, inside-at, reached-bounds, reached-start}
 
 pub distance-is : (nodes : List Reached) (v : ℕ) (d : Reached) → v < length nodes → (get_or nodes v d).distance ≡ distance_at nodes v

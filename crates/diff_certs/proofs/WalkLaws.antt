@@ -10,7 +10,7 @@ use Rattle.diff_certs.specs.declared.row.DiffRow.{DiffRow}
 use Rattle.diff_certs.specs.Rows.{side, Satisfies, SatisfiesAll, AreRefuted, IsInside, IsName, node, row_at, no_row, left_at, right_at, Chain, total, IsCycle}
 use Rattle.diff_certs.specs.declared.walk.Longer.{Longer}
 use Rattle.diff_certs.specs.declared.walk.Longer.TheVariants.{Cycle, Walk}
-use Rattle.diff_certs.specs.Walks.{IsReached, rights, IsCut, IsLonger}
+use Rattle.diff_certs.specs.Code.Walks.{IsReached, rights, IsCut, IsLonger}
 
 -- A valuation of sides by their numbers, which gives 0 the value 0.
 record Fits (values : ℕ → ℤ) (nodes : ℕ → ℤ) : Type 0 where

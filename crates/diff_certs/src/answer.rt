@@ -2,7 +2,7 @@ ghost use Rattle.std.specs.Prelude.{◌≡◌, ◌≤◌, ◌<◌, ◌^◌, leng
 ghost use Rattle.std.specs.List.{All};
 ghost use Rattle.diff_certs.specs.declared.row.DiffRow.{DiffRow};
 ghost use Rattle.diff_certs.specs.Rows.{IsInside, IsCycle, AreRefuted};
-ghost use Rattle.diff_certs.specs.Distances.{AreReached, AreStable, distance_at};
+ghost use Rattle.diff_certs.specs.Code.Distances.{AreReached, AreStable, distance_at};
 ghost use Rattle.diff_certs.specs.Answer.{IsAnswer, IsShifted};
 
 use crate::distances::{distance, first_unstable, pass, start};

@@ -2,7 +2,7 @@
 ghost use Rattle.std.specs.Prelude.{◌≡◌, ◌≤◌, ◌<◌, ◌^◌, true, false, length, IfOk, slice_set, pos, ◌≤ℤ◌, ◌+ℤ◌, ◌<ℤ◌};
 ghost use Rattle.std.specs.List.{All};
 ghost use Rattle.diff_certs.specs.Rows.{IsInside, left_at, right_at, row_at, node};
-ghost use Rattle.diff_certs.specs.Distances.{AreReached, IsStable, IsStep, IsPass, IsFirst, IsStart, distance_at};
+ghost use Rattle.diff_certs.specs.Code.Distances.{AreReached, IsStable, IsStep, IsPass, IsFirst, IsStart, distance_at};
 
 use crate::row::{DiffRow, node};
 use crate::walk::{Longer, Reached, extend, row};

@@ -2,7 +2,7 @@
 ghost use Rattle.std.specs.Prelude.{◌≡◌, ◌≤◌, ◌<◌, ◌∷◌, ◌^◌, take, drop, length, IfOk, pos, ◌≤ℤ◌, ◌+ℤ◌, ◌<ℤ◌};
 ghost use Rattle.std.specs.List.{All};
 ghost use Rattle.diff_certs.specs.Rows.{IsInside, IsCycle, left_at, right_at, row_at, total, node};
-ghost use Rattle.diff_certs.specs.Walks.{IsReached, IsPlace, AreRows, IsCut, IsLonger};
+ghost use Rattle.diff_certs.specs.Code.Walks.{IsReached, IsPlace, AreRows, IsCut, IsLonger};
 
 use crate::row::{DiffRow, node};
 use std::alloc::{AllocError, Global};

@@ -1,9 +1,9 @@
 -- Three programs that share a number have the form that can be merged.
 use Rattle.std.proofs.Common.{◌≡◌, ◌∙◌, ap, sym, subst, refl, arith, ℕ, pos, true, List, [], ◌∷◌, Option, Some}
 use Rattle.c_lang.specs.Names.{Bytes}
-use Rattle.c_lang.specs.Lines.{Lines}
+use Rattle.c_lines.specs.Lines.{Lines}
 use Rattle.c_lang.specs.Programs.{no_func}
-use Rattle.c_lang.specs.Sources.{Source, Setter, IsSetter, is_shared_name, source_program, setter_program, set_statement}
+use Rattle.c_lines.specs.Sources.{Source, Setter, IsSetter, is_shared_name, source_program, setter_program, set_statement}
 use Rattle.c_lang.specs.declared.unit.Unit.{Unit}
 use Rattle.c_lang.specs.declared.unit.Unit.TheVariants.{Old, New, Xform}
 use Rattle.c_lang.specs.declared.unit.Pos.{Pos}

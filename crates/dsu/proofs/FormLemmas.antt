@@ -1,6 +1,6 @@
 -- The refusals of the forms, where the parser refuses a text.
 use Rattle.std.proofs.Common.{inl, inr}
-use Rattle.c_lang.specs.Lines.{Lines}
+use Rattle.c_lines.specs.Lines.{Lines}
 use Rattle.c_lang.specs.declared.unit.Unit.TheVariants.{Old, New, Xform}
 use Rattle.c_lang.specs.declared.program.Program.{Program}
 use Rattle.c_lang.specs.declared.refusal.Fail.{Fail}

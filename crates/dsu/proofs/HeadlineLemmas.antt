@@ -3,7 +3,7 @@ use Rattle.std.proofs.Common.{◌≡◌, ◌∙◌, ◌≤◌, ◌+◌, List, []
 use Rattle.std.proofs.lemmas.List.{take_all}
 use Rattle.std.specs.Prelude.{◌⊎◌}
 use Rattle.std.specs.Io.KnownBytes.{Appends}
-use Rattle.c_lang.specs.Units.{size_limit}
+use Rattle.c_lang.specs.Limits.{size_limit}
 use Rattle.c_lang.specs.declared.unit.Unit.{Unit}
 use Rattle.c_lang.specs.declared.unit.Unit.TheVariants.{Old, New, Xform}
 use Rattle.c_lang.specs.declared.refusal.Refusal.{Refusal}

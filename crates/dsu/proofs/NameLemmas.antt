@@ -1,6 +1,6 @@
 -- What the names in three programs say of their texts.
 use Rattle.std.proofs.Common.{◌≡◌, ◌∙◌, ap, subst, inl, inr}
-use Rattle.c_lang.specs.Lines.{Lines}
+use Rattle.c_lines.specs.Lines.{Lines}
 use Rattle.c_lang.specs.declared.unit.Unit.TheVariants.{Old, New, Xform}
 use Rattle.c_lang.specs.declared.program.Program.{Program}
 use Rattle.c_lang.specs.declared.refusal.Refusal.{Refusal}

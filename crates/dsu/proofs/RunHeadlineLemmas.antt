@@ -1,7 +1,7 @@
 -- What follows from the outcome of `run` where files and sink tell their bytes.
 use Rattle.std.proofs.Common.{◌≡◌, ◌∙◌, ◌≤◌, ◌++◌, length, Option, Some, sym, ap, refl, subst, inl, inr}
 use Rattle.std.specs.Prelude.{◌⊎◌}
-use Rattle.c_lang.specs.Units.{size_limit}
+use Rattle.c_lang.specs.Limits.{size_limit}
 use Rattle.c_lang.specs.declared.unit.Unit.TheVariants.{Merge}
 use Rattle.c_lang.specs.declared.program.Program.{Program}
 use Rattle.dsu.specs.Words.{Text, RunRequest, Request, Run}

@@ -1,14 +1,14 @@
 -- From a text to its typed program, stage by stage.
 use Rattle.std.proofs.Common.{◌≡◌, refl, sym, ap, ◌∙◌, subst, ℕ, ◌≤◌, List, length, Result, Ok, Err}
 use Rattle.std.specs.Prelude.{MatchResult}
-use Rattle.c_lang.specs.Units.{size_limit}
+use Rattle.c_lang.specs.Limits.{size_limit}
 use Rattle.c_lang.specs.declared.unit.Unit.{Unit}
 use Rattle.c_lang.specs.declared.refusal.Fail.{Fail}
 use Rattle.c_lang.specs.declared.refusal.Fail.TheVariants as fail
 use Rattle.c_lang.specs.declared.program.Program.{Program}
-use Rattle.c_lexer.specs.declared.token.Token.{Token}
-use Rattle.c_lexer.specs.Lexed as lexed
-use Rattle.c_parser.specs.Parsed as parsed
+use Rattle.c_grammar.specs.declared.token.Token.{Token}
+use Rattle.c_grammar.specs.Lexed as lexed
+use Rattle.c_grammar.specs.Parsed as parsed
 use Rattle.c_lang.specs.declared.refusal.Refusal.{Refusal}
 use Rattle.c_types.specs.Types.{Types, IsChecked}
 use Rattle.c_types.specs.Programs.{resolved_program}

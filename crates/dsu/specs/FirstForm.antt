@@ -1,7 +1,7 @@
 -- Texts of the first form, and the one number that they share.
 use Rattle.std.specs.Prelude.{◌≡◌, List, [], ◌∷◌, Option, Some, None, All}
 use Rattle.c_lang.specs.Names.{Bytes}
-use Rattle.c_lang.specs.Lines.{Lines}
+use Rattle.c_lines.specs.Lines.{Lines}
 use Rattle.c_lang.specs.declared.unit.Unit.{Unit}
 use Rattle.c_lang.specs.declared.unit.Unit.TheVariants.{Old, New, Xform}
 use Rattle.c_lang.specs.declared.stmt.Dest.TheVariants.{Into}

@@ -1,6 +1,6 @@
 -- The texts of the files that a request names.
 use Rattle.std.specs.Prelude.{◌≡◌, ℕ, ◌+◌, List, Option, IfSome, take, IfErr, Result, Contains}
-use Rattle.c_lang.specs.Units.{size_limit}
+use Rattle.c_lang.specs.Limits.{size_limit}
 use Rattle.c_lang.specs.declared.unit.Unit.{Unit}
 use Rattle.outside.specs.Counts.{Rose}
 use Rattle.dsu.specs.Words.{Text}

@@ -1,6 +1,6 @@
 -- What the text that `merge` writes is.
 use Rattle.std.specs.Prelude.{◌≡◌}
-use Rattle.c_lang.specs.Lines.{Lines}
+use Rattle.c_lines.specs.Lines.{Lines}
 use Rattle.c_lang.specs.declared.unit.Unit.TheVariants.{Old, New, Xform, Merge}
 use Rattle.c_lang.specs.declared.program.Program.{Program}
 use Rattle.merge_core.specs.FirstMerge.{IsMergeOf, ShowsTheSame}

@@ -1,5 +1,5 @@
 -- The programs that were parsed from the texts.
-use Rattle.c_lang.specs.Lines.{Lines}
+use Rattle.c_lines.specs.Lines.{Lines}
 use Rattle.c_lang.specs.declared.unit.Unit.TheVariants.{Old, New, Xform}
 use Rattle.dsu.specs.Merge.{Texts}
 use Rattle.dsu.specs.declared.merge.Programs.{Programs}

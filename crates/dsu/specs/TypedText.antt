@@ -1,15 +1,15 @@
 -- Which texts are typed programs, and why the others are refused.
 use Rattle.std.specs.Prelude.{⊤, ◌≡◌, ℕ, ◌≤◌, List, length, Some}
-use Rattle.c_lang.specs.Units.{size_limit}
+use Rattle.c_lang.specs.Limits.{size_limit}
 use Rattle.c_lang.specs.declared.unit.Unit.{Unit}
 use Rattle.c_lang.specs.declared.refusal.Refusal.{Refusal}
 use Rattle.c_lang.specs.declared.refusal.Fail.{Fail}
 use Rattle.c_lang.specs.declared.refusal.Fail.TheVariants as fail
 use Rattle.c_lang.specs.declared.program.Program.{Program}
-use Rattle.c_lexer.specs.declared.token.Token.{Token}
-use Rattle.c_lexer.specs.Lexed.{Lexed, Refused}
-use Rattle.c_parser.specs.Parsed as parsed
-use Rattle.c_parser.specs.Written.{Parses}
+use Rattle.c_grammar.specs.declared.token.Token.{Token}
+use Rattle.c_grammar.specs.Lexed.{Lexed, Refused}
+use Rattle.c_grammar.specs.Parsed as parsed
+use Rattle.c_grammar.specs.Written.{Parses}
 use Rattle.c_types.specs.Types.{Types}
 use Rattle.c_types.specs.Programs.{first_refusal, resolved_program}
 use Rattle.dsu.specs.Words.{Text}

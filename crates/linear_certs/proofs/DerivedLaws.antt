@@ -13,7 +13,7 @@ use Rattle.linear_rows.proofs.SumLaws.{dot-sums}
 use Rattle.linear_rows.proofs.FormLaws.{From-sums, unit, coefficient-first-unit}
 use Rattle.linear_certs.specs.declared.entry.Entry.{Entry}
 use Rattle.linear_certs.specs.Stages.{mixed, mixed_multipliers, multiple, combined, upper_times, lower_times, is_false, no_parts, is_negative}
-use Rattle.linear_certs.specs.Building.{weighed, IsDerived, IsGood}
+use Rattle.linear_certs.specs.Code.Building.{weighed, IsDerived, IsGood}
 use Rattle.linear_certs.proofs.Basics.{zero-plus, up-pos, parts-none, and-both, below-zero}
 
 four : (p q r s : ℤ) → (p +ℤ q) +ℤ (r +ℤ s) ≡ (p +ℤ r) +ℤ (q +ℤ s)

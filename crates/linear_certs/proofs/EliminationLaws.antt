@@ -8,7 +8,7 @@ use Rattle.linear_certs.specs.declared.entry.Entry.{Entry}
 use Rattle.linear_certs.specs.declared.elimination.Stage.{Stage}
 use Rattle.linear_certs.specs.Stages.{stage, first_stage, least_atom, eliminated, is_false, has_false}
 use Rattle.linear_certs.specs.Answers.{NoFalseUpTo}
-use Rattle.linear_certs.specs.Building.{IsGood, IsBuilt, IsStageAt, AreStages}
+use Rattle.linear_certs.specs.Code.Building.{IsGood, IsBuilt, IsStageAt, AreStages}
 use Rattle.linear_certs.proofs.LeastLaws.{AtLeast, least-from, from-least, eliminated-from}
 
 -- How many atoms may be left: those from the least one on.

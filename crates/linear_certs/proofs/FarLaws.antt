@@ -10,9 +10,9 @@ use Rattle.linear_certs.specs.declared.entry.Entry.{Entry}
 use Rattle.linear_certs.specs.declared.elimination.Stage.{Stage}
 use Rattle.linear_certs.specs.Stages.{first_atom, smaller, stage, least_atom}
 use Rattle.linear_certs.specs.Points.{IsPartialPoint, IsCoefficientSize, IsBoundSize, IsDenominatorSize, IsNumeratorSize, IsFar, atoms_of, size_bound}
-use Rattle.linear_certs.specs.Limits.{AreSizes, IsPast}
-use Rattle.linear_certs.specs.Answers.{value_of}
-use Rattle.linear_certs.specs.Building.{IsGood, IsStageAt}
+use Rattle.linear_certs.specs.Code.Limits.{AreSizes, IsPast}
+use Rattle.linear_certs.specs.Answers.{coordinate}
+use Rattle.linear_certs.specs.Code.Building.{IsGood, IsStageAt}
 use Rattle.linear_certs.proofs.EliminationLaws.{good-forms}
 use Rattle.linear_certs.proofs.AtomLaws.{stage-few}
 use Rattle.linear_certs.proofs.SatisfiedLaws.{unflat}
@@ -76,16 +76,16 @@ past-end [] i d h = refl
 past-end (x ∷ xs) zero d h = absurd (omega arith)
 past-end (x ∷ xs) (suc i) d h = past-end xs i d (omega arith)
 
-nums-within : (nums : List ℤ) (m : ℤ) → All (λ z. unsigned_abs z ≤ unsigned_abs m) nums → (atom : ℕ) → unsigned_abs (value_of nums atom) ≤ unsigned_abs m
+nums-within : (nums : List ℤ) (m : ℤ) → All (λ z. unsigned_abs z ≤ unsigned_abs m) nums → (atom : ℕ) → unsigned_abs (coordinate nums atom) ≤ unsigned_abs m
 nums-within nums m all atom = by_le (length nums) atom
     (λ past. subst (λ z. unsigned_abs z ≤ unsigned_abs m) (sym (past-end nums atom (pos 0) past)) (omega arith))
     (λ within. all atom (pos 0) within)
 
-far : (rows : List Row) (k : ℕ) (built : Stage) (num : ℤ) (nums : List ℤ) (over : ℤ) → IsStageAt rows k built → IsPartialPoint rows (suc k) (value_of (num ∷ nums)) over
-    → IsPast (value_of (num ∷ nums)) over built.entries → IsFar rows built.atom
+far : (rows : List Row) (k : ℕ) (built : Stage) (num : ℤ) (nums : List ℤ) (over : ℤ) → IsStageAt rows k built → IsPartialPoint rows (suc k) (coordinate (num ∷ nums)) over
+    → IsPast (coordinate (num ∷ nums)) over built.entries → IsFar rows built.atom
 far rows k built num nums over at part past =
     let entries = built.entries in
-    let point = value_of (num ∷ nums) in
+    let point = coordinate (num ∷ nums) in
     let first = some-part entries built.atom at.least in
     let top = largest (λ (p : Part). unsigned_abs p.1) first.0 first.1.0 in
     let there = contains-part entries top.0 (subst (λ l. Contains l top.0) (sym first.1.1) top.1.there) in
@@ -130,7 +130,7 @@ far rows k built num nums over at part past =
     }
 
 -- For a point that is kept as a list.
-pub far-nums : (rows : List Row) (k : ℕ) (built : Stage) (nums : List ℤ) (over : ℤ) → IsStageAt rows k built → built.atom < length nums → IsPartialPoint rows (suc k) (value_of nums) over → IsPast (value_of nums) over built.entries → IsFar rows built.atom
+pub far-nums : (rows : List Row) (k : ℕ) (built : Stage) (nums : List ℤ) (over : ℤ) → IsStageAt rows k built → built.atom < length nums → IsPartialPoint rows (suc k) (coordinate nums) over → IsPast (coordinate nums) over built.entries → IsFar rows built.atom
 far-nums rows k built [] over at within part past = absurd (omega arith)
 far-nums rows k built (num ∷ nums) over at within part past = far rows k built num nums over at part past
 

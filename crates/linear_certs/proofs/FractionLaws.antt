@@ -6,7 +6,7 @@ use Rattle.linear_rows.proofs.Ring.{dist, dist-left, assoc, mul-le, times-one}
 use Rattle.linear_rows.specs.Sums.{coefficient}
 use Rattle.linear_certs.specs.declared.entry.Entry.{Entry}
 use Rattle.linear_certs.specs.Stages.{is_positive, is_negative}
-use Rattle.linear_certs.specs.Limits.{IsAsTight, side_of}
+use Rattle.linear_certs.specs.Code.Limits.{IsAsTight, side_of}
 
 pub at-most : (a b : ℤ) → a <ℤ b → a ≤ℤ b
 at-most a b h = omega (arith, ints)

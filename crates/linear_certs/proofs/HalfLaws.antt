@@ -7,7 +7,7 @@ use Rattle.std.proofs.Math.IntN.{*ℤ_comm}
 use Rattle.linear_rows.specs.Numbers.{fits}
 use Rattle.linear_rows.proofs.Ring.{dist, dist-left, assoc}
 use Rattle.linear_certs.specs.declared.mix.Halves.{Halves}
-use Rattle.linear_certs.specs.Building.{IsHalved}
+use Rattle.linear_certs.specs.Code.Building.{IsHalved}
 use Rattle.linear_certs.proofs.PairLaws.{fits-size}
 use Rattle.linear_certs.proofs.SizeLaws.{abs-add, abs-sub, abs-mul}
 

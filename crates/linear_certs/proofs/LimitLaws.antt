@@ -17,7 +17,7 @@ use Rattle.linear_certs.specs.declared.limit.Limit.{Limit}
 use Rattle.linear_rows.specs.Numbers.{is_zero}
 use Rattle.linear_certs.specs.Stages.{is_positive, is_negative, is_upper, is_lower}
 use Rattle.linear_certs.specs.Points.{HoldsAt, IsTight, IsReached, HasNone, IsValue, IsLowest, size_bound}
-use Rattle.linear_certs.specs.Limits.{side_of, IsAsTight, room, Leaves, Fixes, AreSizes, IsPast, IsSmallLimit, IsLimitOf, IsTightest, IsBest, IsTighter, IsChosen, IsReduced, IsMoved, IsNextPoint}
+use Rattle.linear_certs.specs.Code.Limits.{side_of, IsAsTight, room, Leaves, Fixes, AreSizes, IsPast, IsSmallLimit, IsLimitOf, IsTightest, IsBest, IsTighter, IsChosen, IsReduced, IsMoved, IsNextPoint}
 use Rattle.linear_certs.proofs.SizeLaws.{room-size, coefficient-size, sizes-up, past-product, over-up, cross-in, num-in, den-in}
 use Rattle.linear_certs.proofs.FractionLaws.{cancel-le, cancel, le-same, le-between, moved-side, swap}
 

@@ -6,7 +6,7 @@ use Rattle.linear_rows.specs.Numbers.{fits}
 use Rattle.linear_rows.specs.declared.row.RowFail.{RowFail}
 use Rattle.linear_rows.specs.declared.row.RowFail.TheVariants.{NoMemory, Wide}
 use Rattle.linear_certs.specs.Stages.{mixed_multipliers}
-use Rattle.linear_certs.specs.Building.{IsNumber, IsMixedList}
+use Rattle.linear_certs.specs.Code.Building.{IsNumber, IsMixedList}
 use Rattle.linear_certs.proofs.Basics.{and-both, and-true, drop-all, drop-next}
 
 and-false : (a b : Bool) → b ≡ false → (a && b) ≡ false

@@ -14,7 +14,7 @@ use Rattle.linear_rows.proofs.SumLaws.{dot-sums}
 use Rattle.linear_rows.proofs.FormLaws.{From-sums}
 use Rattle.linear_certs.specs.declared.entry.Entry.{Entry}
 use Rattle.linear_certs.specs.Stages.{single, second_half, first_entry, second_entry, halves, opened, kept_once}
-use Rattle.linear_certs.specs.Building.{weighed, IsOpening, IsGiven}
+use Rattle.linear_certs.specs.Code.Building.{weighed, IsOpening, IsGiven}
 use Rattle.linear_certs.proofs.StageLaws.{kept_once-append}
 use Rattle.linear_certs.proofs.Basics.{and-true, zero-plus}
 

@@ -15,8 +15,8 @@ use Rattle.linear_certs.specs.declared.elimination.Stage.{Stage}
 use Rattle.linear_certs.specs.declared.elimination.Elimination.{Elimination}
 use Rattle.linear_certs.specs.Stages.{upper_times, lower_times, is_upper, is_lower, next, next_at, after, stage, first_stage, least_atom, has_false}
 use Rattle.linear_certs.specs.Points.{HoldsAt, IsTight, IsReached, IsValue, IsPartialPoint}
-use Rattle.linear_certs.specs.Limits.{IsNextPoint}
-use Rattle.linear_certs.specs.Building.{IsStageAt, AreStages, IsEliminated}
+use Rattle.linear_certs.specs.Code.Limits.{IsNextPoint}
+use Rattle.linear_certs.specs.Code.Building.{IsStageAt, AreStages, IsEliminated}
 use Rattle.linear_certs.proofs.FractionLaws.{le-between, at-most}
 use Rattle.linear_certs.proofs.DerivedLaws.{mixed-in-form}
 use Rattle.linear_certs.proofs.LeastLaws.{AtLeast, least-from, from-least, eliminated-All, eliminated-from}

@@ -9,7 +9,7 @@ use Rattle.std.proofs.Math.IntN.{*ℤ_comm, *ℤ-zero}
 use Rattle.std.proofs.Math.Nat.{mul_assoc, mul-dvd-mul_left, dvd_of_mul-dvd-mul_left}
 use Rattle.linear_rows.specs.Numbers.{is_zero}
 use Rattle.linear_rows.proofs.Ring.{mul-le, times-one}
-use Rattle.linear_certs.specs.Limits.{IsReduced}
+use Rattle.linear_certs.specs.Code.Limits.{IsReduced}
 use Rattle.linear_certs.proofs.FractionLaws.{neg-cross}
 use Rattle.linear_certs.proofs.SizeLaws.{abs-neg}
 

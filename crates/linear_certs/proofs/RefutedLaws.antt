@@ -10,7 +10,7 @@ use Rattle.linear_certs.specs.declared.entry.Entry.{Entry}
 use Rattle.linear_certs.specs.declared.leaf.Leaf.{Leaf}
 use Rattle.linear_certs.specs.declared.leaf.Leaf.TheVariants.{Found, Point, Wide, Far, Rows, NoMemory}
 use Rattle.linear_certs.specs.Stages.{multiple, mixed, first_half, second_half, second_entries, single, halves, opened, first_stage, next, next_at, after, stage, least_atom, is_false, has_false, no_parts, is_negative}
-use Rattle.linear_certs.specs.Answers.{IsLeaf, AreRefuted, IsFoundOrNoMemory, value_of}
+use Rattle.linear_certs.specs.Answers.{IsLeaf, EliminationRefutes, IsFoundOrNoMemory, coordinate}
 use Rattle.linear_certs.proofs.LeastLaws.{eliminated-All}
 use Rattle.linear_certs.proofs.StageLaws.{kept_once-All}
 use Rattle.linear_certs.proofs.Basics.{up-pos, parts-none, below-zero, and-both}
@@ -82,10 +82,10 @@ by_le (suc a) (suc b) one two = by_le a b (λ h. one (omega arith)) (λ h. two (
 too-long : (n : ℕ) → n ≤ 20000 → 20000 < n → ⊥
 too-long n h k = omega arith
 
-pub refuted-leaf : (rows : List Row) (leaf : Leaf) → IsLeaf rows leaf → AreRefuted rows → IsFoundOrNoMemory leaf
+pub refuted-leaf : (rows : List Row) (leaf : Leaf) → IsLeaf rows leaf → EliminationRefutes rows → IsFoundOrNoMemory leaf
 refuted-leaf rows (Found multipliers) is refuted = tt
 refuted-leaf rows NoMemory is refuted = tt
-refuted-leaf rows (Point den nums) is refuted = none-false (value_of nums.items) den (stage rows refuted.number) is.0 (stage-holds (value_of nums.items) den rows refuted.number is.1) refuted.false_row
+refuted-leaf rows (Point den nums) is refuted = none-false (coordinate nums.items) den (stage rows refuted.number) is.0 (stage-holds (coordinate nums.items) den rows refuted.number is.1) refuted.false_row
 refuted-leaf rows (Wide left right atom) is refuted = by_le refuted.number is.0
     (λ h. not-both (has_false (stage rows refuted.number)) refuted.false_row (is.1.1.1.3 refuted.number h))
     (λ h. refuted.narrow is.0 atom is.1.0 is.1.1.0 h is.1.1.1.2)

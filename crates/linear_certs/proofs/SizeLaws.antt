@@ -10,7 +10,7 @@ use Rattle.linear_rows.specs.Numbers.{is_zero}
 use Rattle.linear_rows.specs.Sums.{Part, dot, coefficient}
 use Rattle.linear_certs.specs.declared.entry.Entry.{Entry}
 use Rattle.linear_certs.specs.Points.{size_bound}
-use Rattle.linear_certs.specs.Limits.{room, AreSizes}
+use Rattle.linear_certs.specs.Code.Limits.{room, AreSizes}
 
 by_less : {P : Type 0} (a b : ℕ) → (a < b → P) → (b ≤ a → P) → P
 by_less zero zero one two = two (omega arith)

@@ -9,7 +9,7 @@ use Rattle.linear_rows.specs.declared.row.Row.{Row}
 use Rattle.linear_rows.specs.Sums.{From}
 use Rattle.linear_certs.specs.declared.entry.Entry.{Entry}
 use Rattle.linear_certs.specs.Stages.{has_row, kept_once, combined, is_lower, is_upper, lacks, pairs_of, eliminated, next, next_at, after, stage, first_stage, least_atom}
-use Rattle.linear_certs.specs.Building.{IsGood, IsPair, IsBuilt}
+use Rattle.linear_certs.specs.Code.Building.{IsGood, IsPair, IsBuilt}
 
 pub kept_once-append : (kept xs ys : List Entry) → kept_once kept (xs ++ ys) ≡ kept_once (kept_once kept xs) ys
 kept_once-append kept [] ys = refl

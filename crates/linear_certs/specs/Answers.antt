@@ -23,8 +23,8 @@ pub record IsRefutation (rows : List Row) (multipliers : List ℤ) : Type 0 wher
   pub narrow : all_sums_fit nothing rows multipliers ≡ true
 
 -- An atom's number over the denominator, 0 where none is given.
-abbrev pub value_of : List ℤ → ℕ → ℤ
-value_of nums atom = get_or nums atom (pos 0)
+abbrev pub coordinate : List ℤ → ℕ → ℤ
+coordinate nums atom = get_or nums atom (pos 0)
 
 -- The answer is a wide pair of a stage, and no stage up to it has a constant false row.
 abbrev pub IsWideAt : List Row → Row → Row → ℕ → Type 0
@@ -36,14 +36,14 @@ HasLargeStage rows = (k : ℕ) × ((20000 < length (stage rows k)) × ((j : ℕ)
 
 abbrev pub IsLeaf : List Row → Leaf → Type 0
 IsLeaf rows (Found multipliers) = IsRefutation rows multipliers.items
-IsLeaf rows (Point den nums) = (pos 0 <ℤ den) × All (Holds (value_of nums.items) den) rows
+IsLeaf rows (Point den nums) = (pos 0 <ℤ den) × All (Holds (coordinate nums.items) den) rows
 IsLeaf rows (Wide left right atom) = IsWideAt rows left right atom
 IsLeaf rows (Far atom) = ((k : ℕ) → has_false (stage rows k) ≡ false) × IsFar rows atom
 IsLeaf rows (Rows most) = (most ≡ 20000) × HasLargeStage rows
 IsLeaf rows NoMemory = ⊤
 
 -- A stage has a constant false row, no stage before it has a wide pair, and no stage up to it has more than 20,000 rows.
-pub record AreRefuted (rows : List Row) : Type 0 where
+pub record EliminationRefutes (rows : List Row) : Type 0 where
   pub number : ℕ
   pub false_row : has_false (stage rows number) ≡ true
   pub narrow : (j atom : ℕ) (upper lower : Entry) → j < number → IsWidePair rows (stage rows j) atom upper lower → ⊥

@@ -2,6 +2,5 @@ pub mod Divisors
 pub mod Stages
 pub mod Wide
 pub mod Points
-pub mod Limits
 pub mod Answers
-pub mod Building
+pub mod Code

@@ -4,8 +4,8 @@ ghost use Rattle.linear_rows.specs.declared.row.Row.{Row};
 ghost use Rattle.linear_rows.specs.Sums.{IsInForm, row_fits};
 ghost use Rattle.linear_certs.specs.declared.leaf.Leaf.{Leaf};
 ghost use Rattle.linear_certs.specs.Points.{IsFar, IsCoefficientSize, IsBoundSize, IsDenominatorSize, IsNumeratorSize, atoms_of, size_bound};
-ghost use Rattle.linear_certs.specs.Answers.{IsLeaf, AreRefuted, IsFoundOrNoMemory};
-ghost use Rattle.linear_certs.specs.Building.{AreGiven, IsEliminated};
+ghost use Rattle.linear_certs.specs.Answers.{IsLeaf, EliminationRefutes, IsFoundOrNoMemory};
+ghost use Rattle.linear_certs.specs.Code.Building.{AreGiven, IsEliminated};
 
 use crate::elimination::{Elimination, eliminate_all};
 use crate::given::open_rows;
@@ -34,7 +34,7 @@ pub fn refute(alloc: Global, rows: &[Row]) -> Leaf
     requires in_form { All IsInForm rows.now }
     requires narrow { All (λ row. row_fits row ≡ true) rows.now }
     ensures leaf { IsLeaf rows.now result }
-    ensures refuted { AreRefuted rows.now → IsFoundOrNoMemory result }
+    ensures refuted { EliminationRefutes rows.now → IsFoundOrNoMemory result }
 {
     match eliminate(alloc, rows) {
         Ok(whole) => point(alloc, rows, &whole),
@@ -44,7 +44,7 @@ pub fn refute(alloc: Global, rows: &[Row]) -> Leaf
 
 /// Whatever answer is right for refuted rows is `Found` or `NoMemory`.
 pub fn refuted_rows()
-    ensures { (rows : List Row) (leaf : Leaf) → IsLeaf rows leaf → AreRefuted rows →
+    ensures { (rows : List Row) (leaf : Leaf) → IsLeaf rows leaf → EliminationRefutes rows →
         IsFoundOrNoMemory leaf }
 {}
 

@@ -6,7 +6,7 @@ ghost use Rattle.linear_rows.specs.Combinations.{nothing, all_sums_fit};
 ghost use Rattle.linear_certs.specs.Stages.{is_false, is_upper, is_lower, combined};
 ghost use Rattle.linear_certs.specs.Wide.{is_narrow};
 ghost use Rattle.linear_certs.specs.Answers.{IsLeaf};
-ghost use Rattle.linear_certs.specs.Building.{IsDerived, IsGood, IsPair};
+ghost use Rattle.linear_certs.specs.Code.Building.{IsDerived, IsGood, IsPair};
 
 use crate::entry::{Entry, copy_row};
 use crate::leaf::Leaf;

@@ -3,7 +3,7 @@ ghost use Rattle.std.specs.List.{All};
 ghost use Rattle.linear_rows.specs.Sums.{IsInForm};
 ghost use Rattle.linear_certs.specs.Stages.{first_stage};
 ghost use Rattle.linear_certs.specs.Answers.{IsLeaf};
-ghost use Rattle.linear_certs.specs.Building.{IsGood, IsEliminated};
+ghost use Rattle.linear_certs.specs.Code.Building.{IsGood, IsEliminated};
 
 use crate::entry::Entry;
 use crate::leaf::Leaf;

@@ -3,7 +3,7 @@ ghost use Rattle.std.specs.List.{All};
 ghost use Rattle.linear_rows.specs.Sums.{IsInForm, row_fits};
 ghost use Rattle.linear_certs.specs.Stages.{is_false, kept_once, first_entry, second_entry, second_entries, halves, single, first_stage, second_half};
 ghost use Rattle.linear_certs.specs.Answers.{IsLeaf};
-ghost use Rattle.linear_certs.specs.Building.{IsGood, IsOpening, IsGiven, AreGiven};
+ghost use Rattle.linear_certs.specs.Code.Building.{IsGood, IsOpening, IsGiven, AreGiven};
 
 use crate::closing::{found, is_false, sums_fit};
 use crate::entry::Entry;

@@ -4,8 +4,8 @@ ghost use Rattle.std.specs.Int.{◌∣◌};
 ghost use Rattle.linear_rows.specs.Numbers.{is_zero};
 ghost use Rattle.linear_rows.specs.Sums.{From, dot, coefficient};
 ghost use Rattle.linear_certs.specs.declared.entry.Entry.{Entry};
-ghost use Rattle.linear_certs.specs.Answers.{value_of};
-ghost use Rattle.linear_certs.specs.Limits.{side_of, room, AreSizes, IsPast, IsLimitOf, IsTighter, IsBest, IsChosen, IsReduced};
+ghost use Rattle.linear_certs.specs.Answers.{coordinate};
+ghost use Rattle.linear_certs.specs.Code.Limits.{side_of, room, AreSizes, IsPast, IsLimitOf, IsTighter, IsBest, IsChosen, IsReduced};
 
 use crate::divisor::divisor;
 use crate::entry::Entry;
@@ -19,7 +19,7 @@ pub(crate) struct Limit {
 }
 
 fn number_of(nums: &[i128], atom: u32) -> i128
-    ensures { result ≡ value_of nums.now atom }
+    ensures { result ≡ coordinate nums.now atom }
 {
     if (atom as usize) < nums.len() {
         nums[atom as usize]
@@ -40,10 +40,10 @@ fn plus_part(sum: i128, factor: i128, number: i128) -> Option<i128>
 
 /// What the parts come to at the numbers, where it fits 128 bits.
 fn dot(parts: &[(u32, i128)], nums: &[i128]) -> Option<i128>
-    ensures value { IfSome result (λ sum. sum ≡ dot (value_of nums.now) parts.now) }
+    ensures value { IfSome result (λ sum. sum ≡ dot (coordinate nums.now) parts.now) }
     ensures past { IsNone result → (coefficient num : ℕ)
         → All (λ part. unsigned_abs part.1 ≤ coefficient) parts.now
-        → ((atom : ℕ) → unsigned_abs (value_of nums.now atom) ≤ num)
+        → ((atom : ℕ) → unsigned_abs (coordinate nums.now atom) ≤ num)
         → 2 ^ 127 ≤ length parts.now * (coefficient * num) }
 {
     let mut sum = 0;
@@ -61,9 +61,9 @@ fn dot(parts: &[(u32, i128)], nums: &[i128]) -> Option<i128>
 
 /// What the row leaves to its atom, times the denominator, where it fits 128 bits.
 fn room(entry: &Entry, den: i128, nums: &[i128]) -> Option<i128>
-    ensures value { IfSome result (λ left. left ≡ room (value_of nums.now) den entry.now) }
+    ensures value { IfSome result (λ left. left ≡ room (coordinate nums.now) den entry.now) }
     ensures past { IsNone result → (atoms coefficient bound most num : ℕ)
-        → AreSizes atoms coefficient bound most num (value_of nums.now) den (entry.now ∷ [])
+        → AreSizes atoms coefficient bound most num (coordinate nums.now) den (entry.now ∷ [])
         → 2 ^ 127 ≤ bound * most + atoms * coefficient * num }
 {
     let rest = dot(entry.row.parts.as_slice(), nums)?;
@@ -94,8 +94,8 @@ fn limit_of(entry: &Entry, atom: u32, den: i128, nums: &[i128]) -> Option<Limit>
     requires from { From atom entry.now.row.parts }
     requires has { is_zero (coefficient atom entry.now.row.parts) ≡ false }
     ensures limit { IfSome result
-        (IsLimitOf atom (value_of nums.now) den (entry.now ∷ []) entry.now) }
-    ensures past { IsNone result → pos 0 <ℤ den → IsPast (value_of nums.now) den (entry.now ∷ []) }
+        (IsLimitOf atom (coordinate nums.now) den (entry.now ∷ []) entry.now) }
+    ensures past { IsNone result → pos 0 <ℤ den → IsPast (coordinate nums.now) den (entry.now ∷ []) }
 {
     let left = room(entry, den, nums)?;
     with_sign(left, coefficient_of(&entry.row, atom))
@@ -146,11 +146,11 @@ fn tightened(
     lower: bool,
 ) -> Option<Option<Limit>>
     requires { From atom entry.now.row.parts }
-    ensures best { (seen : List Entry) → IsBest lower atom (value_of nums.now) den seen best
-        → IfSome result (IsBest lower atom (value_of nums.now) den (seen ++ entry.now ∷ [])) }
+    ensures best { (seen : List Entry) → IsBest lower atom (coordinate nums.now) den seen best
+        → IfSome result (IsBest lower atom (coordinate nums.now) den (seen ++ entry.now ∷ [])) }
     ensures past { IsNone result → pos 0 <ℤ den → (seen : List Entry)
-        → IsBest lower atom (value_of nums.now) den seen best
-        → IsPast (value_of nums.now) den (seen ++ entry.now ∷ []) }
+        → IsBest lower atom (coordinate nums.now) den seen best
+        → IsPast (coordinate nums.now) den (seen ++ entry.now ∷ []) }
 {
     if !is_on_side(entry, atom, lower) {
         return Some(best);
@@ -173,8 +173,8 @@ fn tightest(
 ) -> Option<Option<Limit>>
     requires from { All (λ e. From atom e.row.parts) entries.now }
     requires up { pos 0 <ℤ den }
-    ensures best { IfSome result (IsBest lower atom (value_of nums.now) den entries.now) }
-    ensures past { IsNone result → IsPast (value_of nums.now) den entries.now }
+    ensures best { IfSome result (IsBest lower atom (coordinate nums.now) den entries.now) }
+    ensures past { IsNone result → IsPast (coordinate nums.now) den entries.now }
 {
     let mut best = None;
     for entry in entries {
@@ -196,8 +196,8 @@ pub(crate) fn chosen(
 ) -> Option<Option<Limit>>
     requires from { All (λ e. From atom e.row.parts) entries.now }
     requires up { pos 0 <ℤ den }
-    ensures chosen { IfSome result (IsChosen atom (value_of nums.now) den entries.now) }
-    ensures past { IsNone result → IsPast (value_of nums.now) den entries.now }
+    ensures chosen { IfSome result (IsChosen atom (coordinate nums.now) den entries.now) }
+    ensures past { IsNone result → IsPast (coordinate nums.now) den entries.now }
 {
     match tightest(entries, atom, den, nums, true) {
         None => None,

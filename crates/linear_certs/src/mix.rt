@@ -5,7 +5,7 @@ ghost use Rattle.linear_rows.specs.Sums.{row_fits, plus_times};
 ghost use Rattle.linear_rows.specs.Added.{IsAdded};
 ghost use Rattle.linear_rows.specs.Combinations.{nothing};
 ghost use Rattle.linear_certs.specs.Stages.{multiple, mixed, mixed_multipliers};
-ghost use Rattle.linear_certs.specs.Building.{IsMixedRow, IsMixedList, IsNumber, IsHalved};
+ghost use Rattle.linear_certs.specs.Code.Building.{IsMixedRow, IsMixedList, IsNumber, IsHalved};
 
 use linear_rows::{Row, RowFail, add_times};
 use sqlite_items::Items;

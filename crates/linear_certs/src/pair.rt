@@ -4,7 +4,7 @@ ghost use Rattle.linear_rows.specs.Numbers.{fits};
 ghost use Rattle.linear_rows.specs.Sums.{From, coefficient, row_fits};
 ghost use Rattle.linear_certs.specs.Divisors.{gcd};
 ghost use Rattle.linear_certs.specs.Stages.{is_upper, is_lower, lacks, first_atom, smaller, least_atom};
-ghost use Rattle.linear_certs.specs.Building.{IsCombined};
+ghost use Rattle.linear_certs.specs.Code.Building.{IsCombined};
 
 use crate::divisor::divisor;
 use crate::entry::Entry;

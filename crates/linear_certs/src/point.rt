@@ -1,10 +1,10 @@
 ghost use Rattle.std.specs.Prelude.{◌≡◌, ◌≤◌, ◌<◌, ◌*◌, ◌^◌, ℕ, pos, ◌<ℤ◌, ◌*ℤ◌, length, unsigned_abs, replicate, IfSome, OnSome, IfOk, IsNone, ◌⊎◌};
 ghost use Rattle.std.specs.List.{All};
 ghost use Rattle.linear_rows.specs.Sums.{From};
-ghost use Rattle.linear_certs.specs.Answers.{value_of, IsLeaf};
-ghost use Rattle.linear_certs.specs.Building.{IsEliminated};
+ghost use Rattle.linear_certs.specs.Answers.{coordinate, IsLeaf};
+ghost use Rattle.linear_certs.specs.Code.Building.{IsEliminated};
 ghost use Rattle.linear_certs.specs.Points.{IsLowest};
-ghost use Rattle.linear_certs.specs.Limits.{IsPast, IsMoved, IsNextPoint};
+ghost use Rattle.linear_certs.specs.Code.Limits.{IsPast, IsMoved, IsNextPoint};
 
 use crate::elimination::{Elimination, Stage};
 use crate::leaf::Leaf;
@@ -29,9 +29,9 @@ fn zeros(alloc: Global, count: usize) -> Result<Vec<i128>, AllocError>
 fn multiply(nums: &mut [i128], by: i128) -> Option<()>
     ensures count { length nums.new ≡ length nums.old }
     ensures value { OnSome result
-        ((atom : ℕ) → value_of nums.new atom ≡ value_of nums.old atom *ℤ by) }
+        ((atom : ℕ) → coordinate nums.new atom ≡ coordinate nums.old atom *ℤ by) }
     ensures past { IsNone result → (m n : ℕ)
-        → ((atom : ℕ) → unsigned_abs (value_of nums.old atom) ≤ m)
+        → ((atom : ℕ) → unsigned_abs (coordinate nums.old atom) ≤ m)
         → unsigned_abs by ≤ n → 2 ^ 127 ≤ m * n }
 {
     let mut at = 0;
@@ -50,9 +50,9 @@ fn moved(numbers: Numbers, atom: u32, limit: Limit) -> Option<Numbers>
     requires within { atom < length numbers.nums.items }
     ensures count { IfSome result (λ new. length new.nums.items ≡ length numbers.nums.items) }
     ensures value { IfSome result (λ new. IsMoved atom limit
-        (value_of numbers.nums.items) numbers.den (value_of new.nums.items) new.den) }
+        (coordinate numbers.nums.items) numbers.den (coordinate new.nums.items) new.den) }
     ensures past { IsNone result → (c d n : ℕ)
-        → ((a : ℕ) → unsigned_abs (value_of numbers.nums.items a) ≤ n)
+        → ((a : ℕ) → unsigned_abs (coordinate numbers.nums.items a) ≤ n)
         → unsigned_abs numbers.den ≤ d → unsigned_abs limit.den ≤ c
         → (2 ^ 127 ≤ n * c) ⊎ (2 ^ 127 ≤ d * c) }
 {
@@ -69,13 +69,13 @@ fn give_value(stage: &Stage, numbers: Numbers) -> Option<Numbers>
     requires from { All (λ e. From stage.now.atom e.row.parts) stage.now.entries }
     requires within { stage.now.atom < length numbers.nums.items }
     requires up { pos 0 <ℤ numbers.den }
-    requires still_zero { value_of numbers.nums.items stage.now.atom ≡ pos 0 }
-    requires lowest { IsLowest (value_of numbers.nums.items) numbers.den }
+    requires still_zero { coordinate numbers.nums.items stage.now.atom ≡ pos 0 }
+    requires lowest { IsLowest (coordinate numbers.nums.items) numbers.den }
     ensures count { IfSome result (λ new. length new.nums.items ≡ length numbers.nums.items) }
     ensures value { IfSome result (λ new. IsNextPoint stage.now.atom stage.now.entries
-        (value_of numbers.nums.items) numbers.den (value_of new.nums.items) new.den) }
+        (coordinate numbers.nums.items) numbers.den (coordinate new.nums.items) new.den) }
     ensures past { IsNone result
-        → IsPast (value_of numbers.nums.items) numbers.den stage.now.entries }
+        → IsPast (coordinate numbers.nums.items) numbers.den stage.now.entries }
 {
     match chosen(
         stage.entries.as_slice(),

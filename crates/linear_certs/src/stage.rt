@@ -3,7 +3,7 @@ ghost use Rattle.std.specs.List.{All, Contains, list_any, flat_map};
 ghost use Rattle.linear_rows.specs.Sums.{IsInForm, From};
 ghost use Rattle.linear_certs.specs.Stages.{has_row, same_row, kept_once, combined, is_upper, is_lower, lacks, pairs_of, eliminated};
 ghost use Rattle.linear_certs.specs.Answers.{IsLeaf};
-ghost use Rattle.linear_certs.specs.Building.{IsGood, IsPair, IsBuilt};
+ghost use Rattle.linear_certs.specs.Code.Building.{IsGood, IsPair, IsBuilt};
 
 use crate::closing::pair;
 use crate::entry::Entry;

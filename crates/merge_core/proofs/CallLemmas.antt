@@ -8,11 +8,11 @@ use Rattle.plain_run.specs.Steps as steps
 use Rattle.plain_run.specs.Steps.{updated, local_or, Locals, Item, Does, Mark, Frame, Config, Live, Over, after_mark}
 use Rattle.c_lang.specs.Programs.{func_in}
 use Rattle.plain_run.specs.PlainRun.{Store, PlainFrame, plain_access}
-use Rattle.c_lang.specs.Version.{Version}
-use Rattle.c_lang.specs.Home.{Home, Linked, same_home, same_linked}
-use Rattle.c_lang.specs.Home as home
-use Rattle.c_lang.specs.Origin.{Origin, may_update}
-use Rattle.c_lang.specs.Origin as origin
+use Rattle.version_names.specs.Version.{Version}
+use Rattle.version_names.specs.Home.{Home, Linked, same_home, same_linked}
+use Rattle.version_names.specs.Home as home
+use Rattle.version_names.specs.Provenance.{Provenance, may_update}
+use Rattle.version_names.specs.Provenance as origin
 use Rattle.merge_core.specs.UpdatingRun.{World, State, UpdFrame, cell_meaning, function_meaning, code_of, updating_access}
 use Rattle.c_lang.specs.declared.unit.Pos.{Pos}
 use Rattle.c_lang.specs.declared.expr.Expr.TheVariants.{Var}
@@ -30,10 +30,10 @@ module _ (M : Merging) where
   abbrev W : World
   W = M.world
 
-  abbrev ρ : Origin → Bytes → Bytes
+  abbrev ρ : Provenance → Bytes → Bytes
   ρ = M.variable_name
 
-  abbrev κ : Origin → Bytes → Bytes
+  abbrev κ : Provenance → Bytes → Bytes
   κ = M.function_name
 
   abbrev κ' : Linked → Bytes
@@ -136,8 +136,8 @@ module _ (M : Merging) where
 
   -- every function that a frame may name, and that its body's cells are there
   pub record HasFuncs : Type 0 where
-    pub callable : (o : Origin) (now : Version) (h : Bytes) → ((x : Bytes) → is_there now (cell_meaning W o x).0 ≡ true) → IsCallable now (function_meaning W o now h)
-    pub there : (o : Origin) (now : Version) (h : Bytes) → ((x : Bytes) → is_there now (cell_meaning W o x).0 ≡ true)
+    pub callable : (o : Provenance) (now : Version) (h : Bytes) → ((x : Bytes) → is_there now (cell_meaning W o x).0 ≡ true) → IsCallable now (function_meaning W o now h)
+    pub there : (o : Provenance) (now : Version) (h : Bytes) → ((x : Bytes) → is_there now (cell_meaning W o x).0 ≡ true)
         → (y : Bytes) → is_there now (cell_meaning W (code_of W now (function_meaning W o now h)).0 y).0 ≡ true
 
   -- a value that a call through a pointer may meet now

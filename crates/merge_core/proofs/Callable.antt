@@ -11,12 +11,12 @@ use Rattle.plain_run.specs.Steps as steps
 use Rattle.plain_run.specs.Steps.{updated, local_or, Locals, Item, Does, Mark, Frame, Config, Live, Over, after_mark}
 use Rattle.c_lang.specs.Programs.{global_named, initial_value}
 use Rattle.plain_run.specs.PlainRun.{PlainConfig, step}
-use Rattle.c_lang.specs.Version.{Version, is_old}
-use Rattle.c_lang.specs.Version as version
-use Rattle.c_lang.specs.Home.{Home, Linked, same_home, same_linked}
-use Rattle.c_lang.specs.Home as home
-use Rattle.c_lang.specs.Origin.{Origin, may_update}
-use Rattle.c_lang.specs.Origin as origin
+use Rattle.version_names.specs.Version.{Version, is_old}
+use Rattle.version_names.specs.Version as version
+use Rattle.version_names.specs.Home.{Home, Linked, same_home, same_linked}
+use Rattle.version_names.specs.Home as home
+use Rattle.version_names.specs.Provenance.{Provenance, may_update}
+use Rattle.version_names.specs.Provenance as origin
 use Rattle.merge_core.specs.UpdatingRun.{World, State, UpdFrame, UpdConfig, cell_meaning, function_meaning, code_of, updating_access, swapped_state, swapped, picked, update, step_updating}
 use Rattle.plain_run.proofs.Simulation.{Comes, Matches, Holds, same_from}
 use Rattle.c_lang.specs.declared.unit.Pos.{Pos}
@@ -43,10 +43,10 @@ module _ (M : Merging) where
   abbrev W : World
   W = M.world
 
-  abbrev ρ : Origin → Bytes → Bytes
+  abbrev ρ : Provenance → Bytes → Bytes
   ρ = M.variable_name
 
-  abbrev κ : Origin → Bytes → Bytes
+  abbrev κ : Provenance → Bytes → Bytes
   κ = M.function_name
 
   abbrev κ' : Linked → Bytes
@@ -297,7 +297,7 @@ module _ (M : Merging) where
       good_row None p go k = tt
 
       module _ (g : State) (f : UpdFrame) (fs : List UpdFrame) (s : GoodState g) (h : GoodFrame g.now f) (r : GoodFrames g.now fs) where
-        abbrev pub NU : steps.Access Linked State Origin
+        abbrev pub NU : steps.Access Linked State Provenance
         NU = updating_access W
 
         same_look : (new : List Item) → GoodFrame g.now (record f { items = new })

@@ -2,10 +2,11 @@
 use Rattle.std.proofs.Common.{◌≡◌, ℕ, ◌+◌, ℤ, pos, Bool, true, if◌then◌else◌, List, [], ◌∷◌, ◌++◌, map, Some, refl, sym, ap, ap₂, ◌∙◌}
 use Rattle.c_lang.specs.Names.{Bytes}
 use Rattle.c_lang.specs.Trees.{expr_of}
-use Rattle.c_lang.specs.Sources.{Action, shows, asks, sets, at, set_statement, action_statement, return_zero, main_body, setter_body}
-use Rattle.c_lang.specs.Layout.{both_name, piece_statement}
-use Rattle.c_lang.specs.Origin.{Origin}
-use Rattle.c_lang.specs.Origin as origin
+use Rattle.c_lines.specs.Sources.{Action, shows, asks, sets, set_statement, action_statement, return_zero, main_body, setter_body}
+use Rattle.c_lang.specs.Units.{at}
+use Rattle.c_lines.specs.Layout.{both_name, piece_statement}
+use Rattle.version_names.specs.Provenance.{Provenance}
+use Rattle.version_names.specs.Provenance as origin
 use Rattle.c_lang.proofs.TreeLemmas.{expression_of-Lit, expression_of-Var}
 use Rattle.c_lang.specs.declared.unit.Pos.{Pos}
 use Rattle.c_lang.specs.declared.unit.Unit.TheVariants as unit
@@ -20,20 +21,20 @@ use Rattle.merge_core.specs.FirstMerge.{merged_piece, merged_pieces, last_line, 
 use Rattle.merge_core.proofs.Renaming.{renamed, under}
 use Rattle.merge_core.proofs.MergedStatements.{now_name, is_nil, point_body, merged_layer, merged_stmt}
 
-module _ (permits : ℕ → Bool) (ρ κ : Origin → Bytes → Bytes) (name : Bytes) where
-  abbrev merged : Origin → Stmt → Stmt
+module _ (permits : ℕ → Bool) (ρ κ : Provenance → Bytes → Bytes) (name : Bytes) where
+  abbrev merged : Provenance → Stmt → Stmt
   merged = merged_stmt permits ρ κ
 
-  at_level : (o : Origin) (l : Stmt-F Stmt) → merged o (roll-Stmt l) ≡ roll-Stmt (merged_layer permits ρ κ o (map-Stmt Stmt Stmt (merged o) l))
+  at_level : (o : Provenance) (l : Stmt-F Stmt) → merged o (roll-Stmt l) ≡ roll-Stmt (merged_layer permits ρ κ o (map-Stmt Stmt Stmt (merged o) l))
   at_level o l = fold-roll-Stmt Stmt (λ l. roll-Stmt (merged_layer permits ρ κ o l)) l
 
-  under-Lit : (o : Origin) (z : ℤ) → under (ρ o) (κ o) (Lit z) ≡ Lit z
+  under-Lit : (o : Provenance) (z : ℤ) → under (ρ o) (κ o) (Lit z) ≡ Lit z
   under-Lit o z = ap (λ e. expr_of (renamed (ρ o) (κ o) e)) (expression_of-Lit z)
 
-  under-Var : (o : Origin) (x : Bytes) → under (ρ o) (κ o) (Var x) ≡ Var (ρ o x)
+  under-Var : (o : Provenance) (x : Bytes) → under (ρ o) (κ o) (Var x) ≡ Var (ρ o x)
   under-Var o x = ap (λ e. expr_of (renamed (ρ o) (κ o) e)) (expression_of-Var x)
 
-  module _ (o : Origin) (is_both : ρ o name ≡ both_name name) where
+  module _ (o : Provenance) (is_both : ρ o name ≡ both_name name) where
     merged-set : (p : Pos) (value : ℕ) → merged o (set_statement name p value) ≡ set_statement (both_name name) p value
     merged-set p value =
         ap (merged o) (sym (stmt.rolls-Set p (Into name) (Lit (pos value))))

@@ -4,8 +4,9 @@ use Rattle.std.proofs.Common.{◌≡◌, ℕ, ◌+◌, ◌<◌, ◌≤◌, pos, 
 use Rattle.std.specs.Prelude.{All}
 use Rattle.std.proofs.lemmas.List.Elements.{All-cons, All-nil, All-head, All-tail}
 use Rattle.c_lang.specs.Names.{Bytes}
-use Rattle.c_lang.specs.Sources.{Source, Setter, Action, IsSource, IsSetter, FitsNumber, FitsAction, shows, asks, sets, at, first_line, set_statement, action_statement, return_zero, function, main_body, setter_body, source_program, setter_program}
-use Rattle.c_lang.specs.Layout.{HasPrograms, IsPosition, IsPiece, IsMain, IsLayout, both_name, piece_statement, layout_program, returned_call, version_body}
+use Rattle.c_lines.specs.Sources.{Source, Setter, Action, IsSource, IsSetter, FitsAction, shows, asks, sets, first_line, set_statement, action_statement, return_zero, function, main_body, setter_body, source_program, setter_program}
+use Rattle.c_lang.specs.Units.{FitsNumber, at, HasPrograms, IsPosition}
+use Rattle.c_lines.specs.Layout.{IsPiece, IsMain, IsLayout, both_name, piece_statement, layout_program, returned_call, version_body}
 use Rattle.c_lang.specs.declared.unit.Unit.{Unit}
 use Rattle.c_lang.specs.declared.unit.Unit.TheVariants as unit
 use Rattle.c_lang.specs.declared.unit.Pos.{Pos}
@@ -15,7 +16,7 @@ use Rattle.c_lang.specs.declared.stmt.Stmt.{Stmt}
 use Rattle.c_lang.specs.declared.stmt.Stmt.TheVariants as stmt
 use Rattle.c_lang.specs.declared.program.Program.{Program}
 use Rattle.merge_core.specs.FirstMerge.{AreFirst, IsMergeOf, ShowsTheSame, merged_piece, merged_pieces, merged_main, merged_sets, merged_layout, last_line, main_at}
-use Rattle.merge_core.specs.MergedProgram.{HasFirstForm, IsWhole, IsFirstLevel, IsFirstStatement, merged_level, merged_statement, merged_point, merged_program, wrapper_statements, shared_of}
+use Rattle.merge_core.specs.Code.MergedProgram.{HasFirstForm, IsWhole, IsFirstLevel, IsFirstStatement, merged_level, merged_statement, merged_point, merged_program, wrapper_statements, shared_of}
 use Rattle.merge_core.proofs.FirstWorld.{FirstParts}
 use Rattle.merge_core.proofs.LineCounts.{source-length, setter-length}
 use Rattle.merge_core.proofs.FirstTheorem.{shows_the_same}

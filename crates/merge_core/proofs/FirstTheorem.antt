@@ -5,16 +5,17 @@ use Rattle.c_lang.specs.Names.{Bytes}
 use Rattle.plain_run.specs.Moves.{Goes}
 use Rattle.plain_run.specs.Steps as steps
 use Rattle.plain_run.specs.Steps.{Does, Live, Over, Frame, Config}
-use Rattle.c_lang.specs.Sources.{at, global, first_line}
-use Rattle.c_lang.specs.Layout.{both_name, layout_program}
+use Rattle.c_lang.specs.Units.{at}
+use Rattle.c_lines.specs.Sources.{global, first_line}
+use Rattle.c_lines.specs.Layout.{both_name, layout_program}
 use Rattle.c_lang.specs.Programs.{func_named, func_in, no_func, global_named, initial_value, initial_row}
 use Rattle.plain_run.specs.PlainRun.{Store, PlainFrame, PlainConfig, plain_access, dropped, step, start}
-use Rattle.c_lang.specs.Version.{Version}
-use Rattle.c_lang.specs.Version as version
-use Rattle.c_lang.specs.Home.{Home, Linked}
-use Rattle.c_lang.specs.Home as home
-use Rattle.c_lang.specs.Origin.{Origin}
-use Rattle.c_lang.specs.Origin as origin
+use Rattle.version_names.specs.Version.{Version}
+use Rattle.version_names.specs.Version as version
+use Rattle.version_names.specs.Home.{Home, Linked}
+use Rattle.version_names.specs.Home as home
+use Rattle.version_names.specs.Provenance.{Provenance}
+use Rattle.version_names.specs.Provenance as origin
 use Rattle.merge_core.specs.UpdatingRun.{World, State, swapped_state, UpdFrame, cell_meaning, function_meaning, code_of, updating_access, first_state, start_updating}
 use Rattle.plain_run.proofs.Simulation.{silently, goes_once}
 use Rattle.c_lang.specs.declared.unit.Pos.{Pos}
@@ -68,7 +69,7 @@ module _ (F : FirstParts) where
 
   -- ---- the functions
 
-  shared_name : (o : Origin) → parts.OfProgram F o → M.variable_name o N ≡ both_name N
+  shared_name : (o : Provenance) → parts.OfProgram F o → M.variable_name o N ≡ both_name N
   shared_name o p = ap cell_name (parts.cell_meaning-name F o p)
 
   merged_old : IsMerged M origin.Old (func_in W.first.funcs (codes "main")) (func_in P.funcs (codes "dsu_old_main"))
@@ -181,7 +182,7 @@ module _ (F : FirstParts) where
   unlinked_at_start : (x : Bytes) → at_start (home.Unlinked, x)
   unlinked_at_start x = (ap (initial_value (λ f. f)) (global_named-kept x), ap initial_row (global_named-kept x))
 
-  each_at_start : (o : Origin) (x : Bytes) → at_start (cell_meaning W o x)
+  each_at_start : (o : Provenance) (x : Bytes) → at_start (cell_meaning W o x)
   each_at_start o x = by_meaning (parts.cell-is F o x)
     where
       by_meaning : IsKeyOr N (cell_meaning W o x) x ⊎ (cell_meaning W o x ≡ (home.Unlinked, x)) → at_start (cell_meaning W o x)

@@ -4,14 +4,15 @@ use Rattle.std.specs.Prelude.{⊤}
 use Rattle.std.specs.Str.{bytes_eq}
 use Rattle.std.proofs.lemmas.Slice.Eq.{bytes_eq-Decides}
 use Rattle.c_lang.specs.Names.{Bytes}
-use Rattle.c_lang.specs.Sources.{Source, Setter, Action, source_program, setter_program, global, function, main_body, setter_body, first_line, at}
-use Rattle.c_lang.specs.Links.{part, both_alike, same_shape, same_head, cell_part, code_part}
-use Rattle.c_lang.specs.Version.{Version}
-use Rattle.c_lang.specs.Version as version
-use Rattle.c_lang.specs.Home.{Home, Linked, same_home}
-use Rattle.c_lang.specs.Home as home
-use Rattle.c_lang.specs.Origin.{Origin}
-use Rattle.c_lang.specs.Origin as origin
+use Rattle.c_lines.specs.Sources.{Source, Setter, Action, source_program, setter_program, global, function, main_body, setter_body, first_line}
+use Rattle.c_lang.specs.Units.{at}
+use Rattle.version_names.specs.Links.{part, both_alike, same_shape, same_head, cell_part, code_part}
+use Rattle.version_names.specs.Version.{Version}
+use Rattle.version_names.specs.Version as version
+use Rattle.version_names.specs.Home.{Home, Linked, same_home}
+use Rattle.version_names.specs.Home as home
+use Rattle.version_names.specs.Provenance.{Provenance}
+use Rattle.version_names.specs.Provenance as origin
 use Rattle.merge_core.specs.UpdatingRun.{World, behind, old_or_new, linked_by_prefix, cell_meaning, function_meaning}
 use Rattle.c_lang.specs.declared.unit.Unit.TheVariants as unit
 use Rattle.c_lang.specs.declared.program.GlobalVar.{GlobalVar}
@@ -162,14 +163,14 @@ module _ (F : FirstParts) where
 
   -- ---- meanings
 
-  pub cell-is : (o : Origin) (x : Bytes) → IsKeyOr N (cell_meaning W o x) x ⊎ (cell_meaning W o x ≡ (home.Unlinked, x))
+  pub cell-is : (o : Provenance) (x : Bytes) → IsKeyOr N (cell_meaning W o x) x ⊎ (cell_meaning W o x ≡ (home.Unlinked, x))
   cell-is origin.Old x = inl (plain-is N (cell_part first second) cells-shared version.Old x)
   cell-is origin.New x = inl (plain-is N (cell_part first second) cells-shared version.New x)
   cell-is origin.Xform x = inl (prefix-is N (cell_part first second) cells-shared x)
   cell-is origin.Client x = inr refl
 
   -- a version and the transformer name the shared number by its name
-  abbrev pub OfProgram : Origin → Type 0
+  abbrev pub OfProgram : Provenance → Type 0
   OfProgram origin.Client = ⊥
   OfProgram _ = ⊤
 
@@ -177,7 +178,7 @@ module _ (F : FirstParts) where
   at_key linked (inl e) = e
   at_key linked (inr e) = absurd (true_false (sym (bytes_eq-refl N) ∙ e.1))
 
-  pub cell_meaning-name : (o : Origin) → OfProgram o → cell_meaning W o N ≡ (home.Both, N)
+  pub cell_meaning-name : (o : Provenance) → OfProgram o → cell_meaning W o N ≡ (home.Both, N)
   cell_meaning-name origin.Old p = at_key _ (plain-is N (cell_part first second) cells-shared version.Old N)
   cell_meaning-name origin.New p = at_key _ (plain-is N (cell_part first second) cells-shared version.New N)
   cell_meaning-name origin.Xform p = at_key _ (prefix-is N (cell_part first second) cells-shared N)
@@ -195,7 +196,7 @@ module _ (F : FirstParts) where
   from_key linked f (inl e) = inl e
   from_key linked f (inr e) = inr (inr e)
 
-  pub function-is : (o : Origin) (now : Version) (f : Bytes) → FunctionIs (function_meaning W o now f) f
+  pub function-is : (o : Provenance) (now : Version) (f : Bytes) → FunctionIs (function_meaning W o now f) f
   function-is origin.Old now f = from_key _ f (plain-is main_name (code_part first second) codes-shared version.Old f)
   function-is origin.New now f = from_key _ f (plain-is main_name (code_part first second) codes-shared version.New f)
   function-is origin.Client now f = from_key _ f (plain-is main_name (code_part first second) codes-shared now f)
@@ -222,7 +223,7 @@ module _ (F : FirstParts) where
   there-unlinked version.New = refl
 
   -- no cell is the new version's alone
-  pub always_there : (now : Version) (o : Origin) (x : Bytes) → is_there now (cell_meaning W o x).0 ≡ true
+  pub always_there : (now : Version) (o : Provenance) (x : Bytes) → is_there now (cell_meaning W o x).0 ≡ true
   always_there now o x = by_meaning (cell-is o x)
     where
       by_meaning : IsKeyOr N (cell_meaning W o x) x ⊎ (cell_meaning W o x ≡ (home.Unlinked, x)) → is_there now (cell_meaning W o x).0 ≡ true

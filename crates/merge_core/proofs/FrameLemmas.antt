@@ -9,11 +9,11 @@ use Rattle.plain_run.specs.Steps as steps
 use Rattle.plain_run.specs.Steps.{updated, local_or, Locals, Item, Does, Mark, Frame, Config, Live, Over, after_mark}
 use Rattle.c_lang.specs.Programs.{func_in}
 use Rattle.plain_run.specs.PlainRun.{Store, PlainFrame, PlainConfig, plain_access, dropped, step}
-use Rattle.c_lang.specs.Version.{Version, is_old}
-use Rattle.c_lang.specs.Version as version
-use Rattle.c_lang.specs.Home.{Linked}
-use Rattle.c_lang.specs.Origin.{Origin, may_update}
-use Rattle.c_lang.specs.Origin as origin
+use Rattle.version_names.specs.Version.{Version, is_old}
+use Rattle.version_names.specs.Version as version
+use Rattle.version_names.specs.Home.{Linked}
+use Rattle.version_names.specs.Provenance.{Provenance, may_update}
+use Rattle.version_names.specs.Provenance as origin
 use Rattle.merge_core.specs.UpdatingRun.{World, State, UpdFrame, UpdConfig, cell_meaning, updating_access}
 use Rattle.plain_run.proofs.Simulation.{Comes, goes_once, then_leads, silently}
 use Rattle.c_lang.specs.declared.event.Event.TheVariants as event
@@ -33,10 +33,10 @@ module _ (M : Merging) where
   abbrev W : World
   W = M.world
 
-  abbrev ρ : Origin → Bytes → Bytes
+  abbrev ρ : Provenance → Bytes → Bytes
   ρ = M.variable_name
 
-  abbrev κ : Origin → Bytes → Bytes
+  abbrev κ : Provenance → Bytes → Bytes
   κ = M.function_name
 
   abbrev κ' : Linked → Bytes
@@ -51,7 +51,7 @@ module _ (M : Merging) where
   abbrev value' : Value Linked → Value Bytes
   value' = renamed_value κ'
 
-  pub out_merged : (o : Origin) (t : Stmt) → out-Stmt (merged_stmt W.permits ρ κ o t) ≡ merged_layer W.permits ρ κ o (map-Stmt Stmt Stmt (merged_stmt W.permits ρ κ o) (out-Stmt t))
+  pub out_merged : (o : Provenance) (t : Stmt) → out-Stmt (merged_stmt W.permits ρ κ o t) ≡ merged_layer W.permits ρ κ o (map-Stmt Stmt Stmt (merged_stmt W.permits ρ κ o) (out-Stmt t))
   out_merged o t = ap out-Stmt (fold_out-Stmt Stmt (λ l. roll-Stmt (merged_layer W.permits ρ κ o l)) t) ∙ out-roll-Stmt _
 
   -- ---- the frames after a swap
@@ -67,11 +67,11 @@ module _ (M : Merging) where
   below_later now b d (f ∷ fs) e (w ∷ []) (inr h) = absurd h.1
   below_later now b d (f ∷ fs) e (w ∷ q ∷ qs) (inr h) = inr (h.0, (h.1.0, there_later f q now h.1.1, below_later now f.gives f.dest fs q.dest qs h.1.2))
 
-  pub does_map : (o : Origin) (ts : List Stmt) → map Does (map (merged_stmt W.permits ρ κ o) ts) ≡ map (merged_item W.permits ρ κ o) (map Does ts)
+  pub does_map : (o : Provenance) (ts : List Stmt) → map Does (map (merged_stmt W.permits ρ κ o) ts) ≡ map (merged_item W.permits ρ κ o) (map Does ts)
   does_map o [] = refl
   does_map o (t ∷ ts) = ap (λ l. Does (merged_stmt W.permits ρ κ o t) ∷ l) (does_map o ts)
 
-  pub after_mark-map : (o : Origin) (is : List Item) → after_mark (map (merged_item W.permits ρ κ o) is) ≡ map (merged_item W.permits ρ κ o) (after_mark is)
+  pub after_mark-map : (o : Provenance) (is : List Item) → after_mark (map (merged_item W.permits ρ κ o) is) ≡ map (merged_item W.permits ρ κ o) (after_mark is)
   after_mark-map o [] = refl
   after_mark-map o (Does t ∷ is) = after_mark-map o is
   after_mark-map o (Mark t ∷ is) = refl
@@ -87,10 +87,10 @@ module _ (M : Merging) where
 
   -- ---- parameters
 
-  abbrev param' : Origin → Kind × Bytes → Kind × Bytes
+  abbrev param' : Provenance → Kind × Bytes → Kind × Bytes
   param' o p = (p.0, ρ o p.1)
 
-  bound-renamed : (o : Origin) (ps : List (Kind × Bytes)) (vs : List (Value Linked)) (x : Bytes)
+  bound-renamed : (o : Provenance) (ps : List (Kind × Bytes)) (vs : List (Value Linked)) (x : Bytes)
       → steps.bound (map (param' o) ps) (map value' vs) (ρ o x) ≡ option_map value' (steps.bound ps vs x)
   bound-renamed o [] vs x = refl
   bound-renamed o (p ∷ ps) [] x =
@@ -106,18 +106,18 @@ module _ (M : Merging) where
       pick_bound true v w = refl
       pick_bound false v w = refl
 
-  bound-apart : (o : Origin) (ps : List (Kind × Bytes)) (vs : List (Value Bytes)) → steps.bound (map (param' o) ps) vs now_name ≡ None
+  bound-apart : (o : Provenance) (ps : List (Kind × Bytes)) (vs : List (Value Bytes)) → steps.bound (map (param' o) ps) vs now_name ≡ None
   bound-apart o [] vs = refl
   bound-apart o (p ∷ ps) [] = ap (λ b. if b then Some (Num (pos 0)) else steps.bound (map (param' o) ps) [] now_name) (names.apart_now o p.1) ∙ bound-apart o ps []
   bound-apart o (p ∷ ps) (v ∷ vs) = ap (λ b. if b then Some v else steps.bound (map (param' o) ps) vs now_name) (names.apart_now o p.1) ∙ bound-apart o ps vs
 
   -- a function of the merged program that is a function of one part under the merged names
-  pub record IsMerged (o : Origin) (d m : Func) : Type 0 where
+  pub record IsMerged (o : Provenance) (d m : Func) : Type 0 where
     pub params : m.params ≡ map (param' o) d.params
     pub body : m.body ≡ map (merged_stmt W.permits ρ κ o) d.body
     pub gives : m.gives ≡ d.gives
 
-  pub same_entry : (now : Version) (o : Origin) (d m : Func) (vs : List (Value Linked)) (e e' : Dest) → ((x : Bytes) → is_there now (cell_meaning W o x).0 ≡ true) → IsMerged o d m
+  pub same_entry : (now : Version) (o : Provenance) (d m : Func) (vs : List (Value Linked)) (e e' : Dest) → ((x : Bytes) → is_there now (cell_meaning W o x).0 ≡ true) → IsMerged o d m
       → SameFrame M now (steps.frame_of (updating_access W) (o, d) vs e) (steps.frame_of (plain_access P) (tt, m) (map value' vs) e')
   same_entry now o d m vs e e' there is = record {
     there = there;

@@ -1,7 +1,7 @@
 -- The lines that sources of the first form are counted by.
 use Rattle.std.proofs.Common.{◌≡◌, refl, arith, ℕ, ◌+◌, ◌≤◌, Bool, true, false, List, [], ◌∷◌, ◌++◌, length, map, codes, length-append}
 use Rattle.std.proofs.lemmas.List.{length-map}
-use Rattle.c_lang.specs.Sources.{Source, Setter, Action, first_line, include_lines, global_line, action_line, set_line, source_lines, setter_lines}
+use Rattle.c_lines.specs.Sources.{Source, Setter, Action, first_line, include_lines, global_line, action_line, set_line, source_lines, setter_lines}
 use Rattle.merge_core.specs.FirstMerge.{last_line}
 
 last_line-length : (line : ℕ) (actions : List Action) → last_line line actions ≡ line + length actions

@@ -5,13 +5,13 @@ use Rattle.std.specs.Str.{bytes_eq}
 use Rattle.std.proofs.lemmas.Slice.Eq.{bytes_eq-Decides}
 use Rattle.std.proofs.lemmas.List.{take-append-drop}
 use Rattle.c_lang.specs.Names.{Bytes, is_reserved}
-use Rattle.c_lang.specs.Version.{Version}
-use Rattle.c_lang.specs.Version as version
-use Rattle.c_lang.specs.Home.{Home, Linked, same_home, same_linked}
-use Rattle.c_lang.specs.Home as home
-use Rattle.c_lang.specs.Origin.{Origin}
-use Rattle.c_lang.specs.Origin as origin
-use Rattle.c_lang.specs.Links.{cell_part, code_part}
+use Rattle.version_names.specs.Version.{Version}
+use Rattle.version_names.specs.Version as version
+use Rattle.version_names.specs.Home.{Home, Linked, same_home, same_linked}
+use Rattle.version_names.specs.Home as home
+use Rattle.version_names.specs.Provenance.{Provenance}
+use Rattle.version_names.specs.Provenance as origin
+use Rattle.version_names.specs.Links.{cell_part, code_part}
 use Rattle.c_lang.specs.Programs.{func_named}
 use Rattle.merge_core.specs.UpdatingRun.{World, behind, old_or_new, linked_by_prefix, client_funcs, cell_meaning, function_meaning}
 use Rattle.merge_core.proofs.MergedStatements.{now_name, choice_name}
@@ -279,19 +279,19 @@ by_written part x y = by_bool (bytes_eq x y)
 -- ---- a world in which no function is one version's alone
 
 module _ (W : World) (alike : (f : Bytes) → code_part W.first W.second version.Old f ≡ code_part W.first W.second version.New f) where
-  abbrev pub variable_name : Origin → Bytes → Bytes
+  abbrev pub variable_name : Provenance → Bytes → Bytes
   variable_name o x = cell_name (cell_meaning W o x)
 
-  abbrev pub function_name : Origin → Bytes → Bytes
+  abbrev pub function_name : Provenance → Bytes → Bytes
   function_name o f = code_name (function_meaning W o version.Old f)
 
-  same_meaning : (o : Origin) (x y : Bytes) → same_linked (cell_meaning W o x) (cell_meaning W o y) ≡ bytes_eq x y
+  same_meaning : (o : Provenance) (x y : Bytes) → same_linked (cell_meaning W o x) (cell_meaning W o y) ≡ bytes_eq x y
   same_meaning origin.Old x y = by_own_name (λ z. (cell_meaning W origin.Old z).0) x y
   same_meaning origin.New x y = by_own_name (λ z. (cell_meaning W origin.New z).0) x y
   same_meaning origin.Xform x y = by_written (cell_part W.first W.second) x y
   same_meaning origin.Client x y = refl
 
-  same_function : (o : Origin) (now : Version) (f : Bytes) → function_meaning W o version.Old f ≡ function_meaning W o now f
+  same_function : (o : Provenance) (now : Version) (f : Bytes) → function_meaning W o version.Old f ≡ function_meaning W o now f
   same_function o version.Old f = refl
   same_function origin.Old version.New f = refl
   same_function origin.New version.New f = refl

@@ -13,7 +13,7 @@ use Rattle.c_lang.specs.declared.stmt.Stmt.{Stmt, fold-Stmt, roll-Stmt}
 use Rattle.c_lang.specs.declared.stmt.Stmt.TheOpen.{Stmt-F}
 use Rattle.c_lang.specs.declared.stmt.Stmt.TheOpen as one
 use Rattle.c_lang.specs.declared.stmt.Stmt.TheVariants as stmt
-use Rattle.c_lang.specs.Origin.{Origin, may_update}
+use Rattle.version_names.specs.Provenance.{Provenance, may_update}
 use Rattle.plain_run.specs.Steps.{Item, Does, Mark}
 use Rattle.merge_core.proofs.Renaming.{stmt_under}
 
@@ -55,17 +55,17 @@ hand p false f ps = stmt.Call p Nowhere f (map (λ x. Var x.1) ps) ∷ []
 abbrev pub wrapper_body : Pos → Bool → Bytes → Bytes → List (Kind × Bytes) → List Stmt
 wrapper_body p gives new old ps = stmt.If p (is_set now_name) (hand p gives new ps) (hand p gives old ps) ∷ []
 
-module _ (permits : ℕ → Bool) (ρ κ : Origin → Bytes → Bytes) where
-  abbrev pub merged_layer : Origin → Stmt-F Stmt → Stmt-F Stmt
+module _ (permits : ℕ → Bool) (ρ κ : Provenance → Bytes → Bytes) where
+  abbrev pub merged_layer : Provenance → Stmt-F Stmt → Stmt-F Stmt
   merged_layer o (one.Point p k) =
       if may_update o && permits k then one.If p (is_nil now_name) (point_body p k) [] else one.Skip p
   merged_layer o (one.Force p) = one.If p (is_nil now_name) (swap_body p) []
   merged_layer o (one.Pick p a b) = one.If p (is_set now_name) (a ∷ []) (b ∷ [])
   merged_layer o l = stmt_under (ρ o) (κ o) l
 
-  abbrev pub merged_stmt : Origin → Stmt → Stmt
+  abbrev pub merged_stmt : Provenance → Stmt → Stmt
   merged_stmt o = fold-Stmt Stmt (λ l. roll-Stmt (merged_layer o l))
 
-  abbrev pub merged_item : Origin → Item → Item
+  abbrev pub merged_item : Provenance → Item → Item
   merged_item o (Does s) = Does (merged_stmt o s)
   merged_item o (Mark s) = Mark (merged_stmt o s)

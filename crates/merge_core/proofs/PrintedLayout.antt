@@ -5,10 +5,10 @@ use Rattle.std.specs.Fmt.{decimal, digits}
 use Rattle.std.proofs.lemmas.List.Concat.{flat_map-append}
 use Rattle.c_lang.specs.Names.{Bytes}
 use Rattle.c_lang.specs.Trees.{Expression, expression_of, statement_of, statements, binary}
-use Rattle.c_lang.specs.Lines.{text_of}
-use Rattle.c_lang.specs.Sources.{set_line, show_line, set_statement, return_zero, global_line, global, function}
-use Rattle.c_lang.specs.Layout as layout
-use Rattle.c_lang.specs.Layout.{Layout, Piece, Main, Expansion, placed, position_line, piece_lines, piece_statement, expansion_lines, expansion, both_name, is_zero_test, is_set_test, layout_lines, layout_program, returned_call, version_body, transform_body, wrapper_body, wrapper_lines, Wrapper, Transform, Start, main_lines, transform_lines, start_lines, prototype, Prototypes, prototype_lines, global_lines}
+use Rattle.c_lines.specs.Lines.{text_of}
+use Rattle.c_lines.specs.Sources.{set_line, show_line, set_statement, return_zero, global_line, global, function}
+use Rattle.c_lines.specs.Layout as layout
+use Rattle.c_lines.specs.Layout.{Layout, Piece, Main, Expansion, placed, position_line, piece_lines, piece_statement, expansion_lines, expansion, both_name, is_zero_test, is_set_test, layout_lines, layout_program, returned_call, version_body, transform_body, wrapper_body, wrapper_lines, Wrapper, Transform, Start, main_lines, transform_lines, start_lines, prototype, Prototypes, prototype_lines, global_lines}
 use Rattle.c_lang.proofs.TreeLemmas.{expression_of-Lit, expression_of-Var, expression_of-Bin, statement_of-Skip, statement_of-Set, statement_of-Call, statement_of-If, statement_of-Return, statement_of-Output, statement_of-Choice}
 use Rattle.c_lang.specs.declared.unit.Pos.{Pos}
 use Rattle.c_lang.specs.declared.expr.Op.TheVariants as op

@@ -7,11 +7,11 @@ use Rattle.c_lang.specs.Values.{Value, Num}
 use Rattle.plain_run.specs.Moves.{Move}
 use Rattle.plain_run.specs.Steps.{Does, Live, Over}
 use Rattle.plain_run.specs.PlainRun.{Store, PlainFrame, PlainConfig, step}
-use Rattle.c_lang.specs.Version.{Version, is_old}
-use Rattle.c_lang.specs.Version as version
-use Rattle.c_lang.specs.Home.{Home, Linked, same_home, same_linked}
-use Rattle.c_lang.specs.Home as home
-use Rattle.c_lang.specs.Origin.{Origin}
+use Rattle.version_names.specs.Version.{Version, is_old}
+use Rattle.version_names.specs.Version as version
+use Rattle.version_names.specs.Home.{Home, Linked, same_home, same_linked}
+use Rattle.version_names.specs.Home as home
+use Rattle.version_names.specs.Provenance.{Provenance}
 use Rattle.merge_core.specs.UpdatingRun.{World, State, UpdFrame, UpdConfig, cell_meaning, function_meaning, swapped_state, step_updating}
 use Rattle.plain_run.proofs.Simulation.{Matches}
 use Rattle.c_lang.specs.declared.unit.Pos.{Pos}
@@ -44,20 +44,20 @@ flag version.New = Num (pos 1)
 
 -- What the merged names have to be: ρ for variables and κ for functions by the origin of the frame,
 -- κ' for the functions that are values.
-pub record Naming (W : World) (ρ κ : Origin → Bytes → Bytes) (κ' : Linked → Bytes) : Type 0 where
-  pub cells : (o : Origin) (x : Bytes) (q : Origin) (y : Bytes) → bytes_eq (ρ o x) (ρ q y) ≡ same_linked (cell_meaning W o x) (cell_meaning W q y)
-  pub locals : (o : Origin) (x y : Bytes) → bytes_eq (ρ o x) (ρ o y) ≡ bytes_eq x y
+pub record Naming (W : World) (ρ κ : Provenance → Bytes → Bytes) (κ' : Linked → Bytes) : Type 0 where
+  pub cells : (o : Provenance) (x : Bytes) (q : Provenance) (y : Bytes) → bytes_eq (ρ o x) (ρ q y) ≡ same_linked (cell_meaning W o x) (cell_meaning W q y)
+  pub locals : (o : Provenance) (x y : Bytes) → bytes_eq (ρ o x) (ρ o y) ≡ bytes_eq x y
   pub values : (a b : Linked) → bytes_eq (κ' a) (κ' b) ≡ same_linked a b
-  pub codes : (o : Origin) (now : Version) (f : Bytes) → κ o f ≡ κ' (function_meaning W o now f)
-  pub apart_now : (o : Origin) (x : Bytes) → bytes_eq (ρ o x) now_name ≡ false
-  pub now_apart : (o : Origin) (x : Bytes) → bytes_eq now_name (ρ o x) ≡ false
-  pub choice_apart : (o : Origin) (x : Bytes) → bytes_eq choice_name (ρ o x) ≡ false
+  pub codes : (o : Provenance) (now : Version) (f : Bytes) → κ o f ≡ κ' (function_meaning W o now f)
+  pub apart_now : (o : Provenance) (x : Bytes) → bytes_eq (ρ o x) now_name ≡ false
+  pub now_apart : (o : Provenance) (x : Bytes) → bytes_eq now_name (ρ o x) ≡ false
+  pub choice_apart : (o : Provenance) (x : Bytes) → bytes_eq choice_name (ρ o x) ≡ false
 
 -- a world, the names of its merged program, and that program
 pub record Merging : Type 0 where
   pub world : World
-  pub variable_name : Origin → Bytes → Bytes
-  pub function_name : Origin → Bytes → Bytes
+  pub variable_name : Provenance → Bytes → Bytes
+  pub function_name : Provenance → Bytes → Bytes
   pub value_name : Linked → Bytes
   pub naming : Naming world variable_name function_name value_name
   pub program : Program
@@ -66,10 +66,10 @@ module _ (M : Merging) where
   abbrev W : World
   W = M.world
 
-  abbrev ρ : Origin → Bytes → Bytes
+  abbrev ρ : Provenance → Bytes → Bytes
   ρ = M.variable_name
 
-  abbrev κ : Origin → Bytes → Bytes
+  abbrev κ : Provenance → Bytes → Bytes
   κ = M.function_name
 
   abbrev κ' : Linked → Bytes
@@ -93,8 +93,8 @@ module _ (M : Merging) where
   settled g = settled_by g.now g
 
   pub record SameState (g : State) (s : Store) : Type 0 where
-    pub values : (o : Origin) (x : Bytes) → s.values (ρ o x) ≡ value' ((settled g).values (cell_meaning W o x).0 (cell_meaning W o x).1)
-    pub rows : (o : Origin) (x : Bytes) → s.rows (ρ o x) ≡ (settled g).rows (cell_meaning W o x).0 (cell_meaning W o x).1
+    pub values : (o : Provenance) (x : Bytes) → s.values (ρ o x) ≡ value' ((settled g).values (cell_meaning W o x).0 (cell_meaning W o x).1)
+    pub rows : (o : Provenance) (x : Bytes) → s.rows (ρ o x) ≡ (settled g).rows (cell_meaning W o x).0 (cell_meaning W o x).1
     pub now : s.values now_name ≡ flag g.now
 
   pub record SameFrame (now : Version) (f : UpdFrame) (q : PlainFrame) : Type 0 where

@@ -10,11 +10,11 @@ use Rattle.plain_run.specs.Moves.{Move}
 use Rattle.plain_run.specs.Steps as steps
 use Rattle.plain_run.specs.Steps.{updated, local_or, Locals, Item, Does, Mark, Frame, Config, Live, Over, after_mark}
 use Rattle.plain_run.specs.PlainRun.{Store, PlainFrame, PlainConfig, plain_access, step}
-use Rattle.c_lang.specs.Version.{Version, is_old}
-use Rattle.c_lang.specs.Version as version
-use Rattle.c_lang.specs.Home.{Home, Linked, same_home, same_linked}
-use Rattle.c_lang.specs.Home as home
-use Rattle.c_lang.specs.Origin.{Origin}
+use Rattle.version_names.specs.Version.{Version, is_old}
+use Rattle.version_names.specs.Version as version
+use Rattle.version_names.specs.Home.{Home, Linked, same_home, same_linked}
+use Rattle.version_names.specs.Home as home
+use Rattle.version_names.specs.Provenance.{Provenance}
 use Rattle.merge_core.specs.UpdatingRun.{World, State, UpdFrame, UpdConfig, put_linked, cell_meaning, updating_access, swapped_state}
 use Rattle.plain_run.proofs.Simulation.{goes_once}
 use Rattle.c_lang.specs.declared.unit.Pos.{Pos}
@@ -35,10 +35,10 @@ module _ (M : Merging) where
   abbrev W : World
   W = M.world
 
-  abbrev ρ : Origin → Bytes → Bytes
+  abbrev ρ : Provenance → Bytes → Bytes
   ρ = M.variable_name
 
-  abbrev κ : Origin → Bytes → Bytes
+  abbrev κ : Provenance → Bytes → Bytes
   κ = M.function_name
 
   abbrev κ' : Linked → Bytes
@@ -128,7 +128,7 @@ module _ (M : Merging) where
   pick true v w = refl
   pick false v w = refl
 
-  same_put : (g : State) (s : Store) (o : Origin) (x : Bytes) (v : Value Linked) → is_there g.now (cell_meaning W o x).0 ≡ true → SameState M g s
+  same_put : (g : State) (s : Store) (o : Provenance) (x : Bytes) (v : Value Linked) → is_there g.now (cell_meaning W o x).0 ≡ true → SameState M g s
       → SameState M ((updating_access W).put o x v g) (record s { values = updated s.values (ρ o x) (value' v) })
   same_put g s o x v t ss = record {
     values = λ q y. let c = cell_meaning W q y in
@@ -142,7 +142,7 @@ module _ (M : Merging) where
 
   module _ (g : State) (s : Store) (f : UpdFrame) (q : PlainFrame) (fs : List UpdFrame) (qs : List PlainFrame)
       (ss : SameState M g s) (sf : SameFrame M g.now f q) (sb : Below M g.now f.gives f.dest fs q.dest qs) where
-    abbrev o : Origin
+    abbrev o : Provenance
     o = f.origin
 
     pick_local : (b : Bool) (v : Value Linked) (w : Option (Value Linked)) → (if b then Some (value' v) else option_map value' w) ≡ option_map value' (if b then Some v else w)
@@ -188,7 +188,7 @@ module _ (M : Merging) where
   settled_values version.New g rs h x = refl
   settled_values version.Old g rs h x = refl
 
-  pub same_put_row : (g : State) (s : Store) (o : Origin) (x : Bytes) (row : List ℤ) → is_there g.now (cell_meaning W o x).0 ≡ true → SameState M g s
+  pub same_put_row : (g : State) (s : Store) (o : Provenance) (x : Bytes) (row : List ℤ) → is_there g.now (cell_meaning W o x).0 ≡ true → SameState M g s
       → SameState M ((updating_access W).put_row o x row g) (record s { rows = updated s.rows (ρ o x) row })
   same_put_row g s o x row t ss = record {
     values = λ q y. let c = cell_meaning W q y in

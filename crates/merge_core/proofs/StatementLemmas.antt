@@ -10,12 +10,12 @@ use Rattle.plain_run.specs.Steps as steps
 use Rattle.plain_run.specs.Steps.{updated, local_or, Locals, Item, Does, Mark, Frame, Config, Live, Over, after_mark}
 use Rattle.c_lang.specs.Programs.{func_in}
 use Rattle.plain_run.specs.PlainRun.{Store, PlainFrame, PlainConfig, plain_access, dropped, step}
-use Rattle.c_lang.specs.Version.{Version, is_old}
-use Rattle.c_lang.specs.Version as version
-use Rattle.c_lang.specs.Home.{Home, Linked, same_home, same_linked}
-use Rattle.c_lang.specs.Home as home
-use Rattle.c_lang.specs.Origin.{Origin, may_update}
-use Rattle.c_lang.specs.Origin as origin
+use Rattle.version_names.specs.Version.{Version, is_old}
+use Rattle.version_names.specs.Version as version
+use Rattle.version_names.specs.Home.{Home, Linked, same_home, same_linked}
+use Rattle.version_names.specs.Home as home
+use Rattle.version_names.specs.Provenance.{Provenance, may_update}
+use Rattle.version_names.specs.Provenance as origin
 use Rattle.merge_core.specs.UpdatingRun.{World, State, UpdFrame, UpdConfig, cell_meaning, function_meaning, version_code, code_of, updating_access, swapped_state, swapped, picked, update, step_updating}
 use Rattle.plain_run.proofs.Simulation.{Leads, Comes, matches_after, goes_once, silently, comes_on, takes_once, comes_takes, takes_comes, waits_there, comes_waits, ends_there}
 use Rattle.c_lang.specs.declared.unit.Pos.{Pos}
@@ -46,10 +46,10 @@ module _ (M : Merging) where
   abbrev W : World
   W = M.world
 
-  abbrev ρ : Origin → Bytes → Bytes
+  abbrev ρ : Provenance → Bytes → Bytes
   ρ = M.variable_name
 
-  abbrev κ : Origin → Bytes → Bytes
+  abbrev κ : Provenance → Bytes → Bytes
   κ = M.function_name
 
   abbrev κ' : Linked → Bytes
@@ -72,7 +72,7 @@ module _ (M : Merging) where
     abbrev NP : steps.Access Bytes Store (Unit {0})
     NP = plain_access P
 
-    abbrev NU : steps.Access Linked State Origin
+    abbrev NU : steps.Access Linked State Provenance
     NU = updating_access W
 
     -- one step that shows these events, to a configuration in the relation
@@ -230,7 +230,7 @@ module _ (M : Merging) where
       abbrev vs' : List (Value Bytes)
       vs' = map value' vs
 
-      padded : (ps : Params M) (n : Bytes) (o : Origin) (dd : Func) → IsMerged M o dd (func_in P.funcs n) → length (func_in P.funcs n).params ≡ length ps
+      padded : (ps : Params M) (n : Bytes) (o : Provenance) (dd : Func) → IsMerged M o dd (func_in P.funcs n) → length (func_in P.funcs n).params ≡ length ps
           → ((x : Bytes) → is_there g.now (cell_meaning W o x).0 ≡ true) → (e : Dest)
           → SameFrame M g.now (steps.frame_of NU (o, dd) vs d) (steps.frame_of NP (tt, func_in P.funcs n) (pad M ps vs') e)
       padded ps n o dd merged len there e =
@@ -244,7 +244,7 @@ module _ (M : Merging) where
           }
 
       -- the wrapper calls one version's function, whose frame the updating machine has at once
-      hand_follows : (b : Bool) (p : Pos) (ps : Params M) (w : PlainFrame) (n : Bytes) (o : Origin) (dd : Func) → w.gives ≡ b → w.dest ≡ d' → dd.gives ≡ b
+      hand_follows : (b : Bool) (p : Pos) (ps : Params M) (w : PlainFrame) (n : Bytes) (o : Provenance) (dd : Func) → w.gives ≡ b → w.dest ≡ d' → dd.gives ≡ b
           → AllAre M w.locals ps (pad M ps vs') → IsMerged M o dd (func_in P.funcs n) → length (func_in P.funcs n).params ≡ length ps
           → ((x : Bytes) → is_there g.now (cell_meaning W o x).0 ≡ true) → w.items ≡ map Does (hand p b n ps)
           → (e : PlainConfig) × Comes (step P) (Live s w (q ∷ qs)) e × R M (Live g (steps.frame_of NU (o, dd) vs d) (f ∷ fs)) e

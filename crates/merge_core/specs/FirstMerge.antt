@@ -1,9 +1,10 @@
 -- The merged program of two sources of the first form and a transformer, by the parts of its layout.
 use Rattle.std.specs.Prelude.{◌≡◌, ℕ, ℤ, ◌+◌, List, [], ◌∷◌, None, true, ◌↔◌}
-use Rattle.c_lang.specs.Sources.{Source, Setter, Action, IsSource, IsSetter, at, first_line, source_program, setter_program}
-use Rattle.c_lang.specs.Sources as source
-use Rattle.c_lang.specs.Layout.{Layout, IsLayout, Expansion, Piece, Main, layout_program}
-use Rattle.c_lang.specs.Layout as layout
+use Rattle.c_lines.specs.Sources.{Source, Setter, Action, IsSource, IsSetter, first_line, source_program, setter_program}
+use Rattle.c_lang.specs.Units.{at}
+use Rattle.c_lines.specs.Sources as source
+use Rattle.c_lines.specs.Layout.{Layout, IsLayout, Expansion, Piece, Main, layout_program}
+use Rattle.c_lines.specs.Layout as layout
 use Rattle.plain_run.specs.PlainRun.{Obs}
 use Rattle.merge_core.specs.UpdatingRun.{World, ObsU}
 use Rattle.c_lang.specs.declared.unit.Pos.{Pos}

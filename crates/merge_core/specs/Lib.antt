@@ -1,3 +1,3 @@
 pub mod UpdatingRun
 pub mod FirstMerge
-pub mod MergedProgram
+pub mod Code

@@ -6,12 +6,12 @@ use Rattle.c_lang.specs.Values.{Value, Num, is_zero}
 use Rattle.plain_run.specs.Moves.{Move, Goes, Asks, events_of, Shows}
 use Rattle.plain_run.specs.Steps.{Frame, Config, Live, Access, Does, Special, frame_of, before_rest, act, step_with}
 use Rattle.c_lang.specs.Programs.{global_named, func_named, func_in, no_func, initial_value, initial_row}
-use Rattle.c_lang.specs.Links.{cell_part, code_part}
-use Rattle.c_lang.specs.Version.{Version, is_old}
-use Rattle.c_lang.specs.Version as version
-use Rattle.c_lang.specs.Home.{Home, Linked, Both, Old, New, Xform, Client, Unlinked, same_home, same_linked}
-use Rattle.c_lang.specs.Origin.{Origin, may_update}
-use Rattle.c_lang.specs.Origin as origin
+use Rattle.version_names.specs.Links.{cell_part, code_part}
+use Rattle.version_names.specs.Version.{Version, is_old}
+use Rattle.version_names.specs.Version as version
+use Rattle.version_names.specs.Home.{Home, Linked, Both, Old, New, Xform, Client, Unlinked, same_home, same_linked}
+use Rattle.version_names.specs.Provenance.{Provenance, may_update}
+use Rattle.version_names.specs.Provenance as origin
 use Rattle.c_lang.specs.declared.event.Event.{Event}
 use Rattle.c_lang.specs.declared.event.Event.TheVariants as event
 use Rattle.c_lang.specs.declared.stmt.Dest.TheVariants.{Nowhere}
@@ -42,10 +42,10 @@ pub record State : Type 0 where
   pub rows : Home → Bytes → List ℤ
 
 abbrev pub UpdFrame : Type 0
-UpdFrame = Frame Linked Origin
+UpdFrame = Frame Linked Provenance
 
 abbrev pub UpdConfig : Type 0
-UpdConfig = Config Linked State Origin
+UpdConfig = Config Linked State Provenance
 
 -- what stands behind a prefix
 abbrev pub behind : Bytes → Bytes → Option Bytes
@@ -86,7 +86,7 @@ module _ (W : World) where
       funcs_of (Some c) = c.program.funcs
 
   -- the cell that a name stands for in a frame
-  abbrev pub cell_meaning : Origin → Bytes → Linked
+  abbrev pub cell_meaning : Provenance → Bytes → Linked
   cell_meaning origin.Old x = (cell_part W.first W.second version.Old x, x)
   cell_meaning origin.New x = (cell_part W.first W.second version.New x, x)
   cell_meaning origin.Xform x = linked_by_prefix (cell_part W.first W.second) x
@@ -94,7 +94,7 @@ module _ (W : World) where
 
   -- The function that a name stands for in a frame. A client names a function of one version alone
   -- only where that version is the current one.
-  abbrev pub function_meaning : Origin → Version → Bytes → Linked
+  abbrev pub function_meaning : Provenance → Version → Bytes → Linked
   function_meaning origin.Old now f = (code_part W.first W.second version.Old f, f)
   function_meaning origin.New now f = (code_part W.first W.second version.New f, f)
   function_meaning origin.Xform now f =
@@ -102,12 +102,12 @@ module _ (W : World) where
   function_meaning origin.Client now f =
       if is_some (func_named client_funcs f) then (Client, f) else (code_part W.first W.second now f, f)
 
-  abbrev pub version_code : Version → Bytes → Origin × Func
+  abbrev pub version_code : Version → Bytes → Provenance × Func
   version_code version.Old f = (origin.Old, func_in W.first.funcs f)
   version_code version.New f = (origin.New, func_in W.second.funcs f)
 
   -- the body of a function: of a shared one that in the current version
-  abbrev pub code_of : Version → Linked → Origin × Func
+  abbrev pub code_of : Version → Linked → Provenance × Func
   code_of now (Both, f) = version_code now f
   code_of now (Old, f) = version_code version.Old f
   code_of now (New, f) = version_code version.New f
@@ -115,7 +115,7 @@ module _ (W : World) where
   code_of now (Client, f) = (origin.Client, func_in client_funcs f)
   code_of now (Unlinked, f) = (origin.Old, no_func)
 
-  abbrev pub updating_access : Access Linked State Origin
+  abbrev pub updating_access : Access Linked State Provenance
   updating_access = record {
     same = same_linked;
     value = λ o g x. let c = cell_meaning o x in g.values c.0 c.1;
@@ -168,7 +168,7 @@ module _ (W : World) where
   }
 
   -- the old `main`, or the client's function
-  abbrev pub entry_code : Option Specification → Origin × Func
+  abbrev pub entry_code : Option Specification → Provenance × Func
   entry_code None = version_code version.Old (codes "main")
   entry_code (Some c) = (origin.Client, func_in c.program.funcs c.entry)
 

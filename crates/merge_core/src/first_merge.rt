@@ -2,7 +2,7 @@
 
 ghost use Rattle.std.specs.Prelude.{◌≡◌, ◌<◌, All, IfOk, length};
 ghost use Rattle.merge_core.specs.FirstMerge.{AreFirst, IsMergeOf, ShowsTheSame};
-ghost use Rattle.merge_core.specs.MergedProgram.{HasFirstForm, IsFirstStatement, IsWhole, main_of, merged_function, merged_functions, merged_global, merged_globals, merged_program, merged_prototypes, shared_of};
+ghost use Rattle.merge_core.specs.Code.MergedProgram.{HasFirstForm, IsFirstStatement, IsWhole, main_of, merged_function, merged_functions, merged_global, merged_globals, merged_program, merged_prototypes, shared_of};
 
 use crate::merged_statement::merged_body;
 use c_lang::layout::{both_name, function, prototype, returned_call, wrapper_body};

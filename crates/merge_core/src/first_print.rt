@@ -1,7 +1,7 @@
 //! The text of a merged program of the first form.
 
 ghost use Rattle.std.specs.Prelude.{IfOk};
-ghost use Rattle.c_lang.specs.Lines.{Lines};
+ghost use Rattle.c_lines.specs.Lines.{Lines};
 ghost use Rattle.c_lang.specs.declared.unit.Unit.TheVariants.{Merge};
 ghost use Rattle.merge_core.specs.FirstMerge.{HasLayout};
 

@@ -1,7 +1,7 @@
 //! Statements of the first form in the merged program.
 
 ghost use Rattle.std.specs.Prelude.{◌≡◌, IfOk, All, map};
-ghost use Rattle.merge_core.specs.MergedProgram.{IsFirstStatement, merged_point, merged_statement};
+ghost use Rattle.merge_core.specs.Code.MergedProgram.{IsFirstStatement, merged_point, merged_statement};
 
 use c_lang::layout::{both_name, expansion};
 use c_lang::{Dest, Expr, Name, Pos, Stmt, Unit};

@@ -4,11 +4,11 @@ use Rattle.std.specs.Prelude.{⊤, ◌≡◌, true, List, [], ◌∷◌, ◌++�
 use Rattle.std.proofs.Common.{refl, sym, subst, append_assoc}
 use Rattle.c_lang.specs.Names.{Bytes}
 use Rattle.c_lang.specs.declared.unit.Unit.TheVariants.{Merge}
-use Rattle.c_lexer.specs.Pieces.{white}
-use Rattle.c_lexer.specs.Lexed.{Cuts, goes, after_byte, after_bytes}
-use Rattle.c_lexer.specs.declared.token.Token.{Token}
-use Rattle.c_lexer.specs.declared.piece.Piece.TheVariants as piece
-use Rattle.c_lexer.specs.declared.lexer.Place.{Place}
+use Rattle.c_grammar.specs.Pieces.{white}
+use Rattle.c_grammar.specs.Lexed.{Cuts, goes, after_byte, after_bytes}
+use Rattle.c_grammar.specs.declared.token.Token.{Token}
+use Rattle.c_grammar.specs.declared.piece.Piece.TheVariants as piece
+use Rattle.c_grammar.specs.declared.piece.Place.{Place}
 
 after_both : (p : Place) (a b : Bytes) → after_bytes p (a ++ b) ≡ after_bytes (after_bytes p a) b
 after_both p [] b = refl

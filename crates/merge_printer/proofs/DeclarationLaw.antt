@@ -3,21 +3,20 @@ use Rattle.std.specs.Prelude.{⊤, ◌≡◌, ℕ, max, true, false, List, [], �
 use Rattle.std.proofs.Common.{refl, sym, ap, subst, ◌∙◌, append_assoc}
 use Rattle.std.specs.List.{flat_map}
 use Rattle.c_lang.specs.Names.{Bytes}
-use Rattle.c_lang.specs.Layout.{IsPosition}
-use Rattle.c_lang.specs.Trees.{Statement, Statements, statement_of, statements, skip, set, set_element, call, call_by, if_else, while_loop, break_loop, return_with, assert_that, input, output, point, choice, force, pick, none, more}
+use Rattle.c_lang.specs.Units.{IsPosition}
+use Rattle.c_lang.specs.Trees.{Statement, Statements, statement_of, statements, skip, set, set_element, call, call_by, if_else, while_loop, break_loop, return_with, assert_that, input, output, point, choice, force, pick, none, more, stmts_of}
 use Rattle.c_lang.specs.declared.unit.Unit.TheVariants.{Merge}
 use Rattle.c_lang.specs.declared.stmt.Dest.{Dest}
 use Rattle.c_lang.specs.declared.stmt.Dest.TheVariants.{Nowhere, Into, Fresh}
 use Rattle.c_lang.specs.declared.program.Proto.{Proto}
 use Rattle.c_lang.specs.declared.program.Func.{Func}
-use Rattle.c_lexer.specs.declared.lexer.Place.{Place}
-use Rattle.c_expressions.specs.Tokens.{At}
-use Rattle.c_statements.specs.Scopes.{Scope, declare}
-use Rattle.c_statements.specs.Statements.{Pieces, pieces_scope}
+use Rattle.c_grammar.specs.declared.piece.Place.{Place}
+use Rattle.c_grammar.specs.Tokens.{At}
+use Rattle.c_grammar.specs.Scopes.{Scope, declare}
+use Rattle.c_grammar.specs.Statements.{Pieces, pieces_scope}
 use Rattle.c_parser.specs.declared.parts.Parts.{Parts}
-use Rattle.c_parser.specs.Units.{HeadTree, External, external_tokens, external_height, IsExternal, AreExternals, unit_tokens, unit_height, add, add_all, with_proto, with_func, body_start, all_declared}
+use Rattle.c_grammar.specs.Units.{HeadTree, External, external_tokens, external_height, IsExternal, AreExternals, unit_tokens, unit_height, add, add_all, with_proto, with_func, body_start, all_declared}
 use Rattle.merge_printer.specs.Heights.{statements_height}
-use Rattle.c_lang.specs.Trees.{stmts_of}
 use Rattle.merge_printer.specs.Positions.{StatementsHavePositions, FuncHasPositions}
 use Rattle.merge_printer.specs.Statements.{statements_text}
 use Rattle.merge_printer.specs.Programs.{head_start, kinds_text, parameters_text, proto_text, func_text}

@@ -11,12 +11,12 @@ use Rattle.c_lang.specs.declared.expr.Op.{Op}
 use Rattle.c_lang.specs.declared.expr.Op.TheVariants as op
 use Rattle.c_lang.specs.declared.expr.Expr.TheVariants as expr
 use Rattle.c_lang.specs.Trees.{Expression, literal, variable, element, function, null, negation, logical_not, binary, expr_of}
-use Rattle.c_lexer.specs.Bytes.{is_in_word, is_in_number, IsEnd}
-use Rattle.c_lexer.specs.declared.lexer.Place.{Place}
+use Rattle.c_grammar.specs.Bytes.{is_in_word, is_in_number, IsEnd}
+use Rattle.c_grammar.specs.declared.piece.Place.{Place}
 use Rattle.c_lexer.proofs.Cases.{and_both, or_false}
-use Rattle.c_expressions.specs.Tokens.{At}
-use Rattle.c_expressions.specs.Expressions.{Tree, IsGrouped}
-use Rattle.c_expressions.specs.Expressions as tree
+use Rattle.c_grammar.specs.Tokens.{At}
+use Rattle.c_grammar.specs.Expressions.{Tree, IsGrouped}
+use Rattle.c_grammar.specs.Expressions as tree
 use Rattle.merge_printer.specs.Expressions.{binds, gap, in_place, expression_text}
 use Rattle.merge_printer.specs.Heights.{height_in_place, expression_height}
 use Rattle.merge_printer.proofs.Chains.{Prints, followed, as_tree, spaced}
@@ -170,11 +170,11 @@ prints (element a i) h p rest end =
 prints (function f) h p rest end = absurd h
 prints null h p rest end = absurd h
 prints (negation e) h p rest end =
-    as_tree (λ (x : At × Tree). tree.negated x.0 x.1) (λ x. refl)
+    as_tree (λ (x : At × Tree). tree.negation x.0 x.1) (λ x. refl)
     (λ x is. record { grouped = (is.1.binds_least, is.1.grouped); binds_is = refl; program = ap expr.Neg is.1.program; height_is = raised is.1.height_is })
     (followed (minus_mark (operand_stands e rest h).0) (after_gap e (λ q. prints_operand 7 e (omega arith) (prints e h) end)))
 prints (logical_not e) h p rest end =
-    as_tree (λ (x : At × Tree). tree.denied x.0 x.1) (λ x. refl)
+    as_tree (λ (x : At × Tree). tree.logical_not x.0 x.1) (λ x. refl)
     (λ x is. record { grouped = (is.1.binds_least, is.1.grouped); binds_is = refl; program = ap expr.Not is.1.program; height_is = raised is.1.height_is })
     (followed (bang_mark (operand_stands e rest h).1) (prints_operand 7 e (omega arith) (prints e h) end))
 prints (binary o a b) h p rest end =

@@ -8,9 +8,9 @@ use Rattle.c_lang.specs.declared.stmt.Kind.TheVariants as kind
 use Rattle.c_lang.specs.declared.stmt.Dest.{Dest}
 use Rattle.c_lang.specs.declared.stmt.Dest.TheVariants.{Nowhere, Into, Fresh}
 use Rattle.c_lang.specs.declared.unit.Pos.{Pos}
-use Rattle.c_statements.specs.declared.right.Right.{Right}
-use Rattle.c_statements.specs.declared.right.Right.TheVariants as right
-use Rattle.c_statements.specs.Scopes.{Scope, is_declared, declare, arity_refusals}
+use Rattle.c_grammar.specs.declared.right.Right.{Right}
+use Rattle.c_grammar.specs.declared.right.Right.TheVariants as right
+use Rattle.c_grammar.specs.Scopes.{Scope, is_declared, declare, arity_refusals}
 use Rattle.merge_printer.proofs.Words.{IsName}
 use Rattle.merge_printer.proofs.ExpressionLaw.{ExpressionFits}
 use Rattle.merge_printer.proofs.SideLaw.{ExpressionsFit}

@@ -4,15 +4,15 @@ use Rattle.std.proofs.Common.{refl, subst, arith}
 use Rattle.std.proofs.lemmas.List.Elements.{All-head, All-tail}
 use Rattle.c_lang.specs.Names.{Bytes}
 use Rattle.c_lang.specs.declared.unit.Unit.TheVariants.{Merge}
-use Rattle.c_lexer.specs.Pieces.{IsPiece}
-use Rattle.c_lexer.specs.Pieces as lexed
-use Rattle.c_lexer.specs.Lexed.{Cuts, goes, ends, tokens_of}
-use Rattle.c_lexer.specs.declared.token.Token.{Token}
-use Rattle.c_lexer.specs.declared.token.Word.{Word}
-use Rattle.c_lexer.specs.declared.token.Word.TheVariants as w
-use Rattle.c_lexer.specs.declared.piece.Piece.{Piece}
-use Rattle.c_lexer.specs.declared.lexer.Place.{Place}
-use Rattle.c_parser.specs.Written.{IsGiven}
+use Rattle.c_grammar.specs.Pieces.{IsPiece}
+use Rattle.c_grammar.specs.Pieces as lexed
+use Rattle.c_grammar.specs.Lexed.{Cuts, goes, ends, tokens_of}
+use Rattle.c_grammar.specs.declared.token.Token.{Token}
+use Rattle.c_grammar.specs.declared.token.Word.{Word}
+use Rattle.c_grammar.specs.declared.token.Word.TheVariants as w
+use Rattle.c_grammar.specs.declared.piece.Piece.{Piece}
+use Rattle.c_grammar.specs.declared.piece.Place.{Place}
+use Rattle.c_grammar.specs.Written.{IsGiven}
 use Rattle.merge_printer.proofs.Words.{IsName}
 use Rattle.merge_printer.proofs.ExpressionLaw.{IsLiteral}
 

@@ -7,20 +7,20 @@ use Rattle.std.proofs.lemmas.Bool.Decides.{nat_tests}
 use Rattle.std.proofs.lemmas.Fmt.{decimal_digit}
 use Rattle.std.specs.Fmt.{decimal, signed_decimal}
 use Rattle.c_lang.specs.Names.{Bytes}
-use Rattle.c_lang.specs.Layout.{IsPosition}
+use Rattle.c_lang.specs.Units.{IsPosition}
 use Rattle.c_lang.specs.declared.unit.Pos.{Pos}
 use Rattle.c_lang.specs.declared.unit.Unit.TheVariants.{Merge}
 use Rattle.c_lang.specs.declared.program.Shape.{Shape}
 use Rattle.c_lang.specs.declared.program.Shape.TheVariants as shape
 use Rattle.c_lang.specs.declared.program.GlobalVar.{GlobalVar}
-use Rattle.c_lexer.specs.Bytes.{is_in_number, IsEnd}
-use Rattle.c_lexer.specs.declared.lexer.Place.{Place}
-use Rattle.c_expressions.specs.Tokens.{At, mark, semicolon}
-use Rattle.c_expressions.specs.Separated.{Separated, last, more, parts_of, separated_tokens}
-use Rattle.c_statements.specs.Statements.{PointerTree, arity}
+use Rattle.c_grammar.specs.Bytes.{is_in_number, IsEnd}
+use Rattle.c_grammar.specs.declared.piece.Place.{Place}
+use Rattle.c_grammar.specs.Tokens.{At, mark, semicolon}
+use Rattle.c_grammar.specs.Separated.{Separated, last, more, parts_of, separated_tokens}
+use Rattle.c_grammar.specs.Statements.{PointerTree, arity}
 use Rattle.c_parser.specs.declared.parts.Parts.{Parts}
-use Rattle.c_parser.specs.Units.{SignedTree, plain, negative, signed_tokens, signed_value, NumberInit, ArrayInit, array_init_tokens, values_of, PointerInit, pointer_init_tokens, target_of, External, external_tokens, external_height, IsExternal, add, with_global, array_refusals, kept_values}
-use Rattle.c_parser.specs.Units as unit
+use Rattle.c_grammar.specs.Units.{SignedTree, plain, negative, signed_tokens, signed_value, NumberInit, ArrayInit, array_init_tokens, values_of, PointerInit, pointer_init_tokens, target_of, External, external_tokens, external_height, IsExternal, add, with_global, array_refusals, kept_values}
+use Rattle.c_grammar.specs.Units as unit
 use Rattle.merge_printer.specs.Programs.{without_zeros, shown_elements, more_numbers, initializer, pointer_value, int_text, array_text, pointer_text, shape_text, global_text}
 use Rattle.merge_printer.proofs.Chains.{Prints, Lines, followed, before, as_tree, as_lines, spaced, spaced_lines, ended}
 use Rattle.merge_printer.proofs.Chains as chains

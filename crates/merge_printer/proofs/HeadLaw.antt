@@ -7,13 +7,13 @@ use Rattle.c_lang.specs.Names.{Bytes}
 use Rattle.c_lang.specs.declared.unit.Pos.{Pos}
 use Rattle.c_lang.specs.declared.stmt.Kind.{Kind}
 use Rattle.c_lang.specs.declared.stmt.Kind.TheVariants as kind
-use Rattle.c_lexer.specs.Bytes.{is_in_word, IsEnd}
-use Rattle.c_lexer.specs.Words.{keyword_number}
-use Rattle.c_lexer.specs.declared.lexer.Place.{Place}
-use Rattle.c_expressions.specs.Tokens.{At}
-use Rattle.c_expressions.specs.Separated.{Separated, last, more, parts_of, separated_tokens, Each}
-use Rattle.c_statements.specs.Statements.{PointerTree, arity}
-use Rattle.c_parser.specs.Units.{ParamTree, number, pointer, ParamsTree, void, several, HeadTree, param_tokens, params_tokens, head_tokens, param_list, param_kind, param_refusals, all_refusals, IsNamed, AreNamed, named_param}
+use Rattle.c_grammar.specs.Bytes.{is_in_word, IsEnd}
+use Rattle.c_grammar.specs.Words.{keyword_number}
+use Rattle.c_grammar.specs.declared.piece.Place.{Place}
+use Rattle.c_grammar.specs.Tokens.{At}
+use Rattle.c_grammar.specs.Separated.{Separated, last, more, parts_of, separated_tokens, Each}
+use Rattle.c_grammar.specs.Statements.{PointerTree, arity}
+use Rattle.c_grammar.specs.Units.{ParamTree, number, pointer, ParamsTree, void, several, HeadTree, param_tokens, params_tokens, head_tokens, param_list, param_kind, param_refusals, all_refusals, IsNamed, AreNamed, named_param}
 use Rattle.merge_printer.specs.Statements.{declaration}
 use Rattle.merge_printer.specs.Programs.{head_start, numbered, more_kinds, kinds_text, more_parameters, parameters_text}
 use Rattle.merge_printer.proofs.Chains.{Prints, followed, as_tree, spaced}

@@ -6,17 +6,17 @@ use Rattle.std.specs.List.{list_all}
 use Rattle.std.proofs.lemmas.Bool.Decides.{nat_tests}
 use Rattle.std.proofs.lemmas.List.Folds.{list_all-append}
 use Rattle.c_lang.specs.Names.{Bytes, is_digit}
-use Rattle.c_lang.specs.Layout.{IsPosition}
+use Rattle.c_lang.specs.Units.{IsPosition}
 use Rattle.c_lang.specs.declared.unit.Unit.{Unit}
 use Rattle.c_lang.specs.declared.unit.Unit.TheVariants as unit
 use Rattle.c_lang.specs.declared.unit.Unit.TheVariants.{Merge}
 use Rattle.c_lang.specs.declared.unit.Pos.{Pos}
-use Rattle.c_lexer.specs.Bytes.{is_in_line}
-use Rattle.c_lexer.specs.Pieces.{SetsPosition, quoted, white, position_line}
-use Rattle.c_lexer.specs.Lexed.{Cuts, goes, after_byte, after_bytes, behind}
-use Rattle.c_lexer.specs.declared.token.Token.{Token}
-use Rattle.c_lexer.specs.declared.piece.Piece.TheVariants as piece
-use Rattle.c_lexer.specs.declared.lexer.Place.{Place}
+use Rattle.c_grammar.specs.Bytes.{is_in_line}
+use Rattle.c_grammar.specs.Pieces.{SetsPosition, quoted, white, position_line}
+use Rattle.c_grammar.specs.Lexed.{Cuts, goes, after_byte, after_bytes, behind}
+use Rattle.c_grammar.specs.declared.token.Token.{Token}
+use Rattle.c_grammar.specs.declared.piece.Piece.TheVariants as piece
+use Rattle.c_grammar.specs.declared.piece.Place.{Place}
 use Rattle.c_lexer.proofs.Cases.{and_both}
 use Rattle.c_lexer.proofs.Runs.{all_mono}
 use Rattle.merge_printer.specs.Statements.{position_text}

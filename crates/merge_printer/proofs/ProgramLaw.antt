@@ -4,20 +4,21 @@ use Rattle.std.proofs.Common.{refl, sym, ap, subst, ◌∙◌, append_assoc, ari
 use Rattle.std.proofs.lemmas.List.{append-nil}
 use Rattle.std.proofs.lemmas.List.Elements.{All-head, All-tail}
 use Rattle.c_lang.specs.Names.{Bytes}
-use Rattle.c_lang.specs.Layout.{IsPosition}
+use Rattle.c_lang.specs.Units.{IsPosition}
 use Rattle.c_lang.specs.declared.unit.Unit.TheVariants.{Merge}
 use Rattle.c_lang.specs.declared.program.GlobalVar.{GlobalVar}
 use Rattle.c_lang.specs.declared.program.Proto.{Proto}
 use Rattle.c_lang.specs.declared.program.Func.{Func}
 use Rattle.c_lang.specs.declared.program.Program.{Program}
-use Rattle.c_lexer.specs.Pieces.{include_line, white}
-use Rattle.c_lexer.specs.Lexed.{Cuts, goes, ends, after_bytes, Lexed, first_place}
-use Rattle.c_lexer.specs.declared.token.Token.{Token}
-use Rattle.c_lexer.specs.declared.piece.Piece.TheVariants as piece
-use Rattle.c_lexer.specs.declared.lexer.Place.{Place}
+use Rattle.c_grammar.specs.Pieces.{include_line, white}
+use Rattle.c_grammar.specs.Lexed.{Cuts, goes, ends, after_bytes, Lexed, first_place}
+use Rattle.c_grammar.specs.declared.token.Token.{Token}
+use Rattle.c_grammar.specs.declared.piece.Piece.TheVariants as piece
+use Rattle.c_grammar.specs.declared.piece.Place.{Place}
 use Rattle.c_parser.specs.declared.parts.Parts.{Parts}
-use Rattle.c_parser.specs.Units.{External, external_tokens, AreExternals, unit_tokens, unit_height, add, add_all, no_parts, cell_limit, with_global}
-use Rattle.c_parser.specs.Grammar.{Gram, program_of}
+use Rattle.c_grammar.specs.Units.{External, external_tokens, AreExternals, unit_tokens, unit_height, add, add_all, no_parts, with_global}
+use Rattle.c_lang.specs.Limits.{cell_limit}
+use Rattle.c_grammar.specs.Grammar.{Gram, program_of}
 use Rattle.merge_printer.specs.Heights.{statements_height, funcs_height}
 use Rattle.merge_printer.specs.Positions.{FuncHasPositions, ProgramHasPositions}
 use Rattle.merge_printer.specs.Programs.{proto_text, global_text, func_text, program_text}

@@ -11,7 +11,7 @@ use Rattle.c_lang.specs.declared.unit.Pos.{Pos}
 use Rattle.c_lang.specs.declared.refusal.Refusal.{Refusal}
 use Rattle.std.proofs.lemmas.Slice.Eq.{bytes_eq-Decides}
 use Rattle.c_lexer.proofs.Cases.{same_bytes}
-use Rattle.c_statements.specs.Scopes.{Scope, is_declared, declare, refusal, arity_refusals}
+use Rattle.c_grammar.specs.Scopes.{Scope, is_declared, declare, refusal, arity_refusals}
 use Rattle.merge_printer.proofs.Fitting.{StatementFits, StatementsFit, scope_behind, scope_behind_all, Keeps, KeepsAll}
 
 -- ---- what is declared

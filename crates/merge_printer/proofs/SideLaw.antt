@@ -7,17 +7,17 @@ use Rattle.c_lang.specs.Names.{Bytes}
 use Rattle.c_lang.specs.Trees.{Expression, expr_of}
 use Rattle.c_lang.specs.declared.expr.Expr.{Expr}
 use Rattle.c_lang.specs.declared.unit.Unit.TheVariants.{Merge}
-use Rattle.c_lexer.specs.Bytes.{is_in_number, IsEnd}
-use Rattle.c_lexer.specs.declared.lexer.Place.{Place}
-use Rattle.c_expressions.specs.Tokens.{At}
-use Rattle.c_expressions.specs.Separated.{Separated, last, more, parts_of, separated_tokens, Each}
-use Rattle.c_expressions.specs.Expressions as e
-use Rattle.c_expressions.specs.Expressions.{Tree, tokens_of, IsGrouped}
-use Rattle.c_statements.specs.declared.right.Call.{Call}
-use Rattle.c_statements.specs.declared.right.Call.TheVariants as call
-use Rattle.c_statements.specs.declared.right.Right.{Right}
-use Rattle.c_statements.specs.declared.right.Right.TheVariants as right
-use Rattle.c_statements.specs.Statements.{Arguments, nothing, given, function, input, choice, CallTree, SideTree, value, called, argument_tokens, call_tokens, side_tokens, tallest, part_height, call_height, side_height, AreArguments, IsCall, IsSide, exprs_of, call_of, right_of, call_pos}
+use Rattle.c_grammar.specs.Bytes.{is_in_number, IsEnd}
+use Rattle.c_grammar.specs.declared.piece.Place.{Place}
+use Rattle.c_grammar.specs.Tokens.{At}
+use Rattle.c_grammar.specs.Separated.{Separated, last, more, parts_of, separated_tokens, Each}
+use Rattle.c_grammar.specs.Expressions as e
+use Rattle.c_grammar.specs.Expressions.{Tree, tokens_of, IsGrouped}
+use Rattle.c_grammar.specs.declared.right.Call.{Call}
+use Rattle.c_grammar.specs.declared.right.Call.TheVariants as call
+use Rattle.c_grammar.specs.declared.right.Right.{Right}
+use Rattle.c_grammar.specs.declared.right.Right.TheVariants as right
+use Rattle.c_grammar.specs.Statements.{Arguments, nothing, given, function, input, choice, CallTree, SideTree, value, called, argument_tokens, call_tokens, side_tokens, tallest, part_height, call_height, side_height, AreArguments, IsCall, IsSide, exprs_of, call_of, right_of, call_pos}
 use Rattle.merge_printer.specs.Expressions.{expression_text, expressions_text, more_expressions}
 use Rattle.merge_printer.specs.Heights.{expression_height, arguments_height}
 use Rattle.merge_printer.specs.Statements.{call_text}

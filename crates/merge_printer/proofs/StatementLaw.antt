@@ -4,7 +4,7 @@ use Rattle.std.proofs.Common.{refl, sym, ap, ap₂, subst, ◌∙◌, append_ass
 use Rattle.std.proofs.lemmas.List.{append-nil}
 use Rattle.std.specs.Fmt.{decimal}
 use Rattle.c_lang.specs.Names.{Bytes}
-use Rattle.c_lang.specs.Trees.{Expression, expr_of, Statement, Statements, skip, set, set_element, call, call_by, if_else, while_loop, break_loop, return_with, assert_that, input, output, point, choice, force, pick, none, more}
+use Rattle.c_lang.specs.Trees.{Expression, expr_of, Statement, Statements, skip, set, set_element, call, call_by, if_else, while_loop, break_loop, return_with, assert_that, input, output, point, choice, force, pick, none, more, stmt_of, stmts_of}
 use Rattle.c_lang.specs.declared.expr.Expr.{Expr}
 use Rattle.c_lang.specs.declared.unit.Pos.{Pos}
 use Rattle.c_lang.specs.declared.unit.Unit.TheVariants.{Merge}
@@ -13,22 +13,21 @@ use Rattle.c_lang.specs.declared.stmt.Dest.{Dest}
 use Rattle.c_lang.specs.declared.stmt.Dest.TheVariants.{Nowhere, Into, Fresh}
 use Rattle.c_lang.specs.declared.stmt.Stmt.{Stmt}
 use Rattle.c_lang.specs.declared.stmt.Stmt.TheVariants as stmt
-use Rattle.c_lexer.specs.Bytes.{is_in_word, IsEnd}
-use Rattle.c_lexer.specs.declared.lexer.Place.{Place}
-use Rattle.c_lexer.specs.declared.token.Token.{Token}
-use Rattle.c_expressions.specs.Tokens.{At, mark, keyword, brace_open, brace_close, semicolon, equals, int_key, if_key, else_key}
-use Rattle.c_expressions.specs.Separated.{Separated, last, parts_of, separated_tokens}
-use Rattle.c_expressions.specs.Separated as separated
-use Rattle.c_expressions.specs.Expressions.{Tree}
-use Rattle.c_statements.specs.declared.right.Call.{Call}
-use Rattle.c_statements.specs.declared.right.Call.TheVariants as c
-use Rattle.c_statements.specs.declared.right.Right.{Right}
-use Rattle.c_statements.specs.declared.right.Right.TheVariants as right
-use Rattle.c_statements.specs.Scopes.{Scope, is_declared, declare, refuse_arity}
-use Rattle.c_statements.specs.Statements.{CallTree, SideTree, PointerTree, Ints, ints_tokens, int_tokens, ints_count, pointer_tokens, arity, CondTree, cond_tokens, Simple, Piece, Body, Pieces, IsPiece, IsBody, ArePieces, body_tokens, pieces_tokens, body_height, pieces_height, body_scope, pieces_scope, body_stmts, pieces_stmts, set_stmts, set_scope, right_to, call_to, stmts, scope_after}
-use Rattle.c_statements.specs.Statements as tree
+use Rattle.c_grammar.specs.Bytes.{is_in_word, IsEnd}
+use Rattle.c_grammar.specs.declared.piece.Place.{Place}
+use Rattle.c_grammar.specs.declared.token.Token.{Token}
+use Rattle.c_grammar.specs.Tokens.{At, mark, keyword, brace_open, brace_close, semicolon, equals, int_key, if_key, else_key}
+use Rattle.c_grammar.specs.Separated.{Separated, last, parts_of, separated_tokens}
+use Rattle.c_grammar.specs.Separated as separated
+use Rattle.c_grammar.specs.Expressions.{Tree}
+use Rattle.c_grammar.specs.declared.right.Call.{Call}
+use Rattle.c_grammar.specs.declared.right.Call.TheVariants as c
+use Rattle.c_grammar.specs.declared.right.Right.{Right}
+use Rattle.c_grammar.specs.declared.right.Right.TheVariants as right
+use Rattle.c_grammar.specs.Scopes.{Scope, is_declared, declare, refuse_arity}
+use Rattle.c_grammar.specs.Statements.{CallTree, SideTree, PointerTree, Ints, ints_tokens, int_tokens, ints_count, pointer_tokens, arity, CondTree, cond_tokens, Simple, Piece, Body, Pieces, IsPiece, IsBody, ArePieces, body_tokens, pieces_tokens, body_height, pieces_height, body_scope, pieces_scope, body_stmts, pieces_stmts, set_stmts, set_scope, right_to, call_to, stmts, scope_after}
+use Rattle.c_grammar.specs.Statements as tree
 use Rattle.merge_printer.specs.Heights.{expression_height, arguments_height, statement_height, statements_height}
-use Rattle.c_lang.specs.Trees.{stmt_of, stmts_of}
 use Rattle.merge_printer.specs.Positions.{StatementHasPositions, StatementsHavePositions}
 use Rattle.merge_printer.specs.Expressions.{expression_text}
 use Rattle.merge_printer.specs.Statements.{more_ints, ints, target, call_text, statement_text, statements_text}
@@ -296,7 +295,7 @@ module _ (in_loop : Bool) (given : Pos) (q : Place) (rest : Bytes) (here : q.pos
 
   prints_break : in_loop ≡ true → Printed (break_loop given) (codes "break;\n")
   prints_break h =
-      as_lines (λ (y : At × At). tree.simple (tree.break_off y.0 y.1)) (λ y. refl)
+      as_lines (λ (y : At × At). tree.simple (tree.break_loop y.0 y.1)) (λ y. refl)
       (λ y is. record { valid = h; height_is = refl; becomes = λ sc k. (ap (λ p. stmt.Break p ∷ []) (is.0 ∙ here), refl) })
       (before (break_word refl) (ended semicolon_mark))
 

@@ -2,13 +2,12 @@
 use Rattle.std.specs.Prelude.{◌≡◌, List, [], ◌∷◌, map, Option, Some, None}
 use Rattle.std.proofs.Common.{refl, sym, ap, ap₂, subst, ◌∙◌}
 use Rattle.std.specs.Option.{option_map}
-use Rattle.c_lang.specs.Trees.{Statement, expression_of, expr_of, statement_of, statement_step, statements}
+use Rattle.c_lang.specs.Trees.{Statement, expression_of, expr_of, statement_of, statement_step, statements, stmt_of, stmts_of}
 use Rattle.c_lang.specs.declared.expr.Expr.{Expr}
 use Rattle.c_lang.specs.declared.stmt.Stmt.{Stmt, roll-Stmt, map-Stmt, fold-roll-Stmt, ind-Stmt}
 use Rattle.c_lang.specs.declared.stmt.Stmt.TheOpen.{Stmt-F}
 use Rattle.c_lang.specs.declared.stmt.Stmt.TheVariants as stmt
 use Rattle.c_lang.proofs.TreeLemmas.{expr_of-expression_of}
-use Rattle.c_lang.specs.Trees.{stmt_of, stmts_of}
 
 abbrev IsBuilt : Stmt → Type 0
 IsBuilt s = stmt_of (statement_of s) ≡ s

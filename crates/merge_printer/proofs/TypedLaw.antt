@@ -5,17 +5,16 @@ use Rattle.std.specs.Prelude.{◌≡◌, ℕ, Bool, true, false, List, [], ◌�
 use Rattle.std.proofs.Common.{refl, sym, ap, ap₂, subst, ◌∙◌}
 use Rattle.std.proofs.lemmas.List.Elements.{All-head, All-tail}
 use Rattle.c_lang.specs.Names.{Bytes}
-use Rattle.c_lang.specs.Trees.{Expression, literal, variable, element, function, null, negation, logical_not, binary, Statement, Statements, skip, set, set_element, call, call_by, if_else, while_loop, break_loop, return_with, assert_that, input, output, point, choice, force, pick, none, more}
+use Rattle.c_lang.specs.Trees.{Expression, literal, variable, element, function, null, negation, logical_not, binary, Statement, Statements, skip, set, set_element, call, call_by, if_else, while_loop, break_loop, return_with, assert_that, input, output, point, choice, force, pick, none, more, stmts_of}
 use Rattle.c_lang.specs.declared.unit.Unit.TheVariants.{Merge}
 use Rattle.c_lang.specs.declared.program.Func.{Func}
 use Rattle.c_lang.specs.declared.program.Program.{Program}
-use Rattle.c_parser.specs.Written.{Parses}
+use Rattle.c_grammar.specs.Written.{Parses}
 use Rattle.merge_printer.specs.Checked.{IsCheckedMerge, ChecksAs}
 use Rattle.c_types.specs.Plain.{plain_expression, plain_statement, plain_statements, plain_func, PlainProgram}
 use Rattle.c_types.specs.Programs.{resolved_program}
 use Rattle.c_types.specs.Types.{Types}
 use Rattle.c_types.proofs.PlainLaws.{plain_resolved_program}
-use Rattle.c_lang.specs.Trees.{stmts_of}
 use Rattle.merge_printer.specs.Plain.{built_func, plain}
 use Rattle.merge_printer.specs.Printable.{IsPrintable}
 use Rattle.merge_printer.specs.Programs.{program_text}

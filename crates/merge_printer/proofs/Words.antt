@@ -15,17 +15,17 @@ use Rattle.c_lang.specs.Operators.{operator_text}
 use Rattle.c_lang.specs.declared.expr.Op.{Op}
 use Rattle.c_lang.specs.declared.expr.Op.TheVariants as op
 use Rattle.c_lang.specs.declared.unit.Unit.TheVariants.{Merge}
-use Rattle.c_lexer.specs.Bytes.{is_in_word, is_in_number, IsEnd}
-use Rattle.c_lexer.specs.Words.{keyword_number, is_refused, is_allowed}
-use Rattle.c_lexer.specs.Punctuators.{punctuator_number, IsLongest}
-use Rattle.c_lexer.specs.Pieces.{IsPiece, IsNumber, begins_comment}
-use Rattle.c_lexer.specs.Pieces as lexed
-use Rattle.c_lexer.specs.Lexed.{goes}
-use Rattle.c_lexer.specs.declared.token.Word.{Word}
-use Rattle.c_lexer.specs.declared.token.Word.TheVariants as w
-use Rattle.c_lexer.specs.declared.piece.Piece.TheVariants as piece
-use Rattle.c_lexer.specs.declared.lexer.Place.{Place}
-use Rattle.c_expressions.specs.Tokens.{At, token, mark, operator, operator_number, keyword, assert_key, break_key, client_in_key, client_out_key, dsu_choice_key, else_key, if_key, int_key, return_key, void_key, while_key}
+use Rattle.c_grammar.specs.Bytes.{is_in_word, is_in_number, IsEnd}
+use Rattle.c_grammar.specs.Words.{keyword_number, is_refused, is_allowed}
+use Rattle.c_grammar.specs.Punctuators.{punctuator_number, IsLongest}
+use Rattle.c_grammar.specs.Pieces.{IsPiece, IsNumber, begins_comment}
+use Rattle.c_grammar.specs.Pieces as lexed
+use Rattle.c_grammar.specs.Lexed.{goes}
+use Rattle.c_grammar.specs.declared.token.Word.{Word}
+use Rattle.c_grammar.specs.declared.token.Word.TheVariants as w
+use Rattle.c_grammar.specs.declared.piece.Piece.TheVariants as piece
+use Rattle.c_grammar.specs.declared.piece.Place.{Place}
+use Rattle.c_grammar.specs.Tokens.{At, token, mark, operator, operator_number, keyword, assert_key, break_key, client_in_key, client_out_key, dsu_choice_key, else_key, if_key, int_key, return_key, void_key, while_key}
 use Rattle.merge_printer.proofs.Chains.{Prints}
 
 -- a token begins at this place

@@ -3,11 +3,11 @@ use Rattle.std.specs.Prelude.{List, [], ◌∷◌, map}
 use Rattle.c_lang.specs.Trees.{expression_of}
 use Rattle.c_lang.specs.declared.expr.Expr.{Expr}
 use Rattle.c_lang.proofs.TreeLemmas.{expression_of-Lit, expression_of-Var, expression_of-Elem, expression_of-Neg, expression_of-Not, expression_of-Bin}
-use Rattle.c_expressions.specs.Tokens.{mark, square_close, round_close, comma, operator}
-use Rattle.c_expressions.specs.Separated.{Separated, last, more, parts_of, separated_tokens}
-use Rattle.c_expressions.specs.Expressions.{Tree, number, name, element, brackets, negated, denied, joined, tokens_of}
-use Rattle.c_expressions.specs.Expressions as e
-use Rattle.c_statements.specs.Statements.{Arguments, nothing, given, argument_tokens, exprs_of}
+use Rattle.c_grammar.specs.Tokens.{mark, square_close, round_close, comma, operator}
+use Rattle.c_grammar.specs.Separated.{Separated, last, more, parts_of, separated_tokens}
+use Rattle.c_grammar.specs.Expressions.{Tree, number, name, element, brackets, negation, logical_not, joined, tokens_of}
+use Rattle.c_grammar.specs.Expressions as e
+use Rattle.c_grammar.specs.Statements.{Arguments, nothing, given, argument_tokens, exprs_of}
 use Rattle.merge_printer.proofs.ExpressionLaw.{ExpressionFits}
 use Rattle.merge_printer.proofs.SideLaw.{ExpressionsFit}
 use Rattle.merge_printer.proofs.GivenTokens.{TokensFit, fit_append}
@@ -24,8 +24,8 @@ tree_fits (name at x) h = rw (expression_of-Var x) h.0
 tree_fits (element at x o t c) h =
     rw (expression_of-Elem x (e.expr_of t)) (h.0, tree_fits t (fit_append (tokens_of t) (mark square_close c ∷ []) h.1.1).0)
 tree_fits (brackets o t c) h = tree_fits t (fit_append (tokens_of t) (mark round_close c ∷ []) h.1).0
-tree_fits (negated at t) h = rw (expression_of-Neg (e.expr_of t)) (tree_fits t h.1)
-tree_fits (denied at t) h = rw (expression_of-Not (e.expr_of t)) (tree_fits t h.1)
+tree_fits (negation at t) h = rw (expression_of-Neg (e.expr_of t)) (tree_fits t h.1)
+tree_fits (logical_not at t) h = rw (expression_of-Not (e.expr_of t)) (tree_fits t h.1)
 tree_fits (joined a at o b) h =
     let both = fit_append (tokens_of a) (operator o at ∷ tokens_of b) h in
     rw (expression_of-Bin o (e.expr_of a) (e.expr_of b)) (tree_fits a both.0, tree_fits b both.1.1)

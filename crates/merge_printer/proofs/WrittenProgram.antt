@@ -12,15 +12,16 @@ use Rattle.c_lang.specs.declared.refusal.Refusal.{Refusal}
 use Rattle.c_lang.specs.declared.program.Shape.TheVariants as shape
 use Rattle.c_lang.specs.declared.program.GlobalVar.{GlobalVar}
 use Rattle.c_lang.specs.declared.program.Program.{Program}
-use Rattle.c_expressions.specs.Tokens.{mark, comma, round_close, brace_open, brace_close, semicolon}
-use Rattle.c_expressions.specs.Separated.{Separated, last, more, parts_of, separated_tokens, Each}
-use Rattle.c_statements.specs.Scopes.{Scope, refusal}
-use Rattle.c_statements.specs.Statements.{pointer_tokens, arity, Pieces, ArePieces, pieces_tokens, pieces_stmts, pieces_scope}
+use Rattle.c_grammar.specs.Tokens.{mark, comma, round_close, brace_open, brace_close, semicolon}
+use Rattle.c_grammar.specs.Separated.{Separated, last, more, parts_of, separated_tokens, Each}
+use Rattle.c_grammar.specs.Scopes.{Scope, refusal}
+use Rattle.c_grammar.specs.Statements.{pointer_tokens, arity, Pieces, ArePieces, pieces_tokens, pieces_stmts, pieces_scope}
 use Rattle.c_parser.specs.declared.parts.Parts.{Parts}
-use Rattle.c_parser.specs.Units.{ParamTree, nameless, number, pointer, ParamsTree, nothing, void, several, HeadTree, param_tokens, params_tokens, head_tokens, param_list, param_kind, named_param, param_refusals, all_refusals, IsNamed, AreNamed, SignedTree, plain, negative, signed_tokens, signed_value, NumberInit, number_init_tokens, ArrayInit, array_init_tokens, values_of, start_value, PointerInit, pointer_init_tokens, target_of, External, external_tokens, AreExternals, IsExternal, unit_tokens, add, add_all, no_parts, cell_limit, array_refusals, kept_values, body_start, function_start}
-use Rattle.c_parser.specs.Units as unit
-use Rattle.c_parser.specs.Grammar.{program_of}
-use Rattle.c_parser.specs.Written.{IsWritten}
+use Rattle.c_grammar.specs.Units.{ParamTree, nameless, number, pointer, ParamsTree, nothing, void, several, HeadTree, param_tokens, params_tokens, head_tokens, param_list, param_kind, named_param, param_refusals, all_refusals, IsNamed, AreNamed, SignedTree, plain, negative, signed_tokens, signed_value, NumberInit, number_init_tokens, ArrayInit, array_init_tokens, values_of, start_value, PointerInit, pointer_init_tokens, target_of, External, external_tokens, AreExternals, IsExternal, unit_tokens, add, add_all, no_parts, array_refusals, kept_values, body_start, function_start}
+use Rattle.c_lang.specs.Limits.{cell_limit}
+use Rattle.c_grammar.specs.Units as unit
+use Rattle.c_grammar.specs.Grammar.{program_of}
+use Rattle.c_grammar.specs.Written.{IsWritten}
 use Rattle.merge_printer.proofs.Words.{IsName}
 use Rattle.merge_printer.proofs.Fitting.{KindFits}
 use Rattle.merge_printer.proofs.GivenTokens.{TokensFit, fit_append, given_fit}

@@ -9,15 +9,15 @@ use Rattle.c_lang.specs.declared.stmt.Kind.TheVariants as kind
 use Rattle.c_lang.specs.declared.stmt.Dest.{Dest}
 use Rattle.c_lang.specs.declared.stmt.Dest.TheVariants.{Nowhere, Into, Fresh}
 use Rattle.c_lang.proofs.TreeLemmas.{expression_of-Var, statement_of-Set, statement_of-Call, statement_of-Input, statement_of-Choice}
-use Rattle.c_lexer.specs.Words.{keyword_number}
-use Rattle.c_expressions.specs.Tokens.{mark, round_close}
-use Rattle.c_statements.specs.declared.right.Call.{Call}
-use Rattle.c_statements.specs.declared.right.Call.TheVariants as c
-use Rattle.c_statements.specs.declared.right.Right.{Right}
-use Rattle.c_statements.specs.declared.right.Right.TheVariants as right
-use Rattle.c_statements.specs.Scopes.{Scope, is_declared, one_more, temporary}
-use Rattle.c_statements.specs.Statements.{CallTree, function, SideTree, value, called, argument_tokens, call_tokens, side_tokens, call_of, right_of, call_to, right_to, stored, set_stmts, set_scope}
-use Rattle.c_statements.specs.Statements as tree
+use Rattle.c_grammar.specs.Words.{keyword_number}
+use Rattle.c_grammar.specs.Tokens.{mark, round_close}
+use Rattle.c_grammar.specs.declared.right.Call.{Call}
+use Rattle.c_grammar.specs.declared.right.Call.TheVariants as c
+use Rattle.c_grammar.specs.declared.right.Right.{Right}
+use Rattle.c_grammar.specs.declared.right.Right.TheVariants as right
+use Rattle.c_grammar.specs.Scopes.{Scope, is_declared, one_more, temporary}
+use Rattle.c_grammar.specs.Statements.{CallTree, function, SideTree, value, called, argument_tokens, call_tokens, side_tokens, call_of, right_of, call_to, right_to, stored, set_stmts, set_scope}
+use Rattle.c_grammar.specs.Statements as tree
 use Rattle.merge_printer.proofs.Words.{IsName, numbered_word}
 use Rattle.merge_printer.proofs.Fitting.{DestFits, TargetFits, declared_by, scope_behind_all, GoesAtOnce, MayGo}
 use Rattle.merge_printer.proofs.GivenTokens.{TokensFit, fit_append}

@@ -9,13 +9,13 @@ use Rattle.c_lang.specs.declared.stmt.Dest.TheVariants.{Nowhere, Fresh}
 use Rattle.c_lang.specs.declared.stmt.Stmt.{Stmt}
 use Rattle.c_lang.specs.declared.stmt.Stmt.TheVariants as stmt
 use Rattle.c_lang.proofs.TreeLemmas.{statement_of-Skip, statement_of-SetElem, statement_of-If, statement_of-While, statement_of-Break, statement_of-Return, statement_of-Assert, statement_of-Output}
-use Rattle.c_expressions.specs.Tokens.{mark, keyword, round_close, square_close, brace_close, semicolon, equals, else_key}
-use Rattle.c_expressions.specs.Expressions as e
-use Rattle.c_statements.specs.declared.right.Right.{Right}
-use Rattle.c_statements.specs.declared.right.Right.TheVariants as right
-use Rattle.c_statements.specs.Scopes.{Scope, is_declared, declare}
-use Rattle.c_statements.specs.Statements.{CondTree, cond_tokens, side_tokens, call_tokens, pointer_tokens, ints_tokens, arity, Simple, simple_tokens, simple_scope, simple_stmts, IsSimple, Piece, Body, Pieces, tokens, body_tokens, pieces_tokens, IsPiece, IsBody, ArePieces, stmts, body_stmts, pieces_stmts, scope_after, body_scope, pieces_scope, right_of, call_of, call_pos, right_to, stored, set_scope}
-use Rattle.c_statements.specs.Statements as tree
+use Rattle.c_grammar.specs.Tokens.{mark, keyword, round_close, square_close, brace_close, semicolon, equals, else_key}
+use Rattle.c_grammar.specs.Expressions as e
+use Rattle.c_grammar.specs.declared.right.Right.{Right}
+use Rattle.c_grammar.specs.declared.right.Right.TheVariants as right
+use Rattle.c_grammar.specs.Scopes.{Scope, is_declared, declare}
+use Rattle.c_grammar.specs.Statements.{CondTree, cond_tokens, side_tokens, call_tokens, pointer_tokens, ints_tokens, arity, Simple, simple_tokens, simple_scope, simple_stmts, IsSimple, Piece, Body, Pieces, tokens, body_tokens, pieces_tokens, IsPiece, IsBody, ArePieces, stmts, body_stmts, pieces_stmts, scope_after, body_scope, pieces_scope, right_of, call_of, call_pos, right_to, stored, set_scope}
+use Rattle.c_grammar.specs.Statements as tree
 use Rattle.merge_printer.proofs.Fitting.{MayGo, scope_behind_all}
 use Rattle.merge_printer.proofs.GivenTokens.{TokensFit, fit_append}
 use Rattle.merge_printer.proofs.WrittenExpressions.{ExprFits, tree_fits}
@@ -45,7 +45,7 @@ simple_before (tree.set_element at x o t c is y end) sc h = stored_before at.pos
 simple_before (tree.declaration int at x is y end) sc h = h
 simple_before (tree.pointer int p is y end) sc h = none_before sc.early _ h
 simple_before (tree.run c end) sc h = h
-simple_before (tree.break_off at end) sc h = h
+simple_before (tree.break_loop at end) sc h = h
 simple_before (tree.return_off at end) sc h = h
 simple_before (tree.return_side at y end) sc h = stored_before at.pos sc (right_of y) h
 simple_before (tree.assert_that at c end) sc h = h
@@ -111,7 +111,7 @@ module _ (in_loop may_declare : Bool) (sc now : Scope) (covers : Covers sc now) 
       goes (right.Call a) = tt
   simple_read (tree.run c end) valid h none =
       call_read in_loop now sc (call_pos c) Nowhere (call_of c) (call_fits c (fit_append (call_tokens c) (mark semicolon end ∷ []) h).0) tt tt covers
-  simple_read (tree.break_off at end) valid h none = one_read (break_loop at.pos) (statement_of-Break at.pos) valid tt covers
+  simple_read (tree.break_loop at end) valid h none = one_read (break_loop at.pos) (statement_of-Break at.pos) valid tt covers
   simple_read (tree.return_off at end) valid h none = one_read (return_with at.pos None) (statement_of-Return at.pos None) tt tt covers
   simple_read (tree.return_side at y end) valid h none =
       let side = fit_append (side_tokens y) (mark semicolon end ∷ []) h.1 in

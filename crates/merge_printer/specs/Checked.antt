@@ -3,7 +3,7 @@ use Rattle.std.specs.Prelude.{◌≡◌}
 use Rattle.c_lang.specs.Names.{Bytes}
 use Rattle.c_lang.specs.declared.unit.Unit.TheVariants.{Merge}
 use Rattle.c_lang.specs.declared.program.Program.{Program}
-use Rattle.c_parser.specs.Written.{Parses}
+use Rattle.c_grammar.specs.Written.{Parses}
 use Rattle.c_types.specs.Types.{Types}
 use Rattle.c_types.specs.Programs.{resolved_program}
 use Rattle.merge_printer.specs.Printable.{IsPrintable}

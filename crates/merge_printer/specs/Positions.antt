@@ -1,7 +1,7 @@
 -- Programs whose positions can be printed: each statement and declaration has a unit of programs, and a line
 -- that `#line` can give.
 use Rattle.std.specs.Prelude.{⊤, map, All}
-use Rattle.c_lang.specs.Layout.{IsPosition}
+use Rattle.c_lang.specs.Units.{IsPosition}
 use Rattle.c_lang.specs.Trees.{Statement, Statements, skip, set, set_element, call, call_by, if_else, while_loop, break_loop, return_with, assert_that, input, output, point, choice, force, pick, none, more, statement_of, statements}
 use Rattle.c_lang.specs.declared.program.Func.{Func}
 use Rattle.c_lang.specs.declared.program.Program.{Program}

@@ -2,10 +2,10 @@
 use Rattle.std.specs.Prelude.{◌≡◌, ◌≤◌, List, []}
 use Rattle.c_lang.specs.declared.unit.Unit.TheVariants.{Merge}
 use Rattle.c_lang.specs.declared.program.Program.{Program}
-use Rattle.c_lexer.specs.Lexed.{Lexed}
-use Rattle.c_lexer.specs.declared.token.Token.{Token}
-use Rattle.c_parser.specs.Nesting.{IsNested}
-use Rattle.c_parser.specs.Written.{IsWritten}
+use Rattle.c_grammar.specs.Lexed.{Lexed}
+use Rattle.c_grammar.specs.declared.token.Token.{Token}
+use Rattle.c_grammar.specs.Nesting.{IsNested}
+use Rattle.c_grammar.specs.Written.{IsWritten}
 use Rattle.merge_printer.specs.Heights.{funcs_height}
 use Rattle.merge_printer.specs.Positions.{ProgramHasPositions}
 use Rattle.merge_printer.specs.Programs.{program_text}

@@ -14,7 +14,7 @@ use Rattle.c_lang.specs.declared.stmt.Stmt.{Stmt}
 use Rattle.c_lang.specs.declared.stmt.Stmt.TheOpen.{Stmt-F}
 use Rattle.c_lang.specs.declared.stmt.Stmt.TheOpen as one
 use Rattle.c_lang.specs.declared.unit.Pos.{Pos}
-use Rattle.plain_run.specs.Actions.{Action, Skip, Enter, Loop, Store_value, Store_element, Return, Fault, Output, or_fault, asked, done}
+use Rattle.plain_run.specs.Code.Actions.{Action, Skip, Enter, Loop, Store_value, Store_element, Return, Fault, Output, or_fault, asked, done}
 
 module _ (P : Program) (g : Store) (f : PlainFrame) (fs : List PlainFrame) where
   after : (a : Answer Bytes) (p : Pos) (go : Value Bytes → Action) (next : Value Bytes → Move PlainConfig)

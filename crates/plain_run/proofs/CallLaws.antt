@@ -10,8 +10,8 @@ use Rattle.c_lang.specs.Values as spec
 use Rattle.plain_run.specs.Steps.{bound, updated}
 use Rattle.c_lang.specs.declared.stmt.Kind.{Kind}
 use Rattle.plain_run.specs.declared.value.Value.{Value}
-use Rattle.plain_run.specs.Calls.{first_or_zero}
-use Rattle.plain_run.specs.Names.{seen_locals}
+use Rattle.plain_run.specs.Code.Calls.{first_or_zero}
+use Rattle.plain_run.specs.Code.Names.{seen_locals}
 use Rattle.plain_run.specs.Values.{seen_value}
 use Rattle.plain_run.proofs.TableLaws.{same_name, seen-insert}
 

@@ -8,7 +8,7 @@ use Rattle.c_lang.specs.declared.stmt.Stmt.{Stmt}
 use Rattle.plain_run.specs.declared.frame.Rest.{Rest}
 use Rattle.plain_run.specs.declared.frame.Rest.TheVariants.{Body}
 use Rattle.plain_run.specs.declared.frame.Frame.{Frame}
-use Rattle.plain_run.specs.Frames.{before, seen_items, seen_frame, seen_frames}
+use Rattle.plain_run.specs.Code.Frames.{before, seen_items, seen_frame, seen_frames}
 
 seen_items-push : (rest : List Rest) (r : Rest) → seen_items (rest ++ r ∷ []) ≡ before r (seen_items rest)
 seen_items-push rest r = fold-append (λ items r. before r items) [] rest (r ∷ [])

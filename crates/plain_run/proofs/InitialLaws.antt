@@ -6,8 +6,8 @@ use Rattle.c_lang.specs.Names.{Bytes}
 use Rattle.c_lang.specs.Programs.{global_named, initial_value, initial_row, shape_value, shape_row}
 use Rattle.c_lang.specs.declared.program.GlobalVar.{GlobalVar}
 use Rattle.plain_run.specs.declared.value.Value.{Value}
-use Rattle.plain_run.specs.Names.{value_or_zero, row_or_empty, seen_values, seen_rows}
-use Rattle.plain_run.specs.Stored.{Entries, Rows}
+use Rattle.plain_run.specs.Code.Names.{value_or_zero, row_or_empty, seen_values, seen_rows}
+use Rattle.plain_run.specs.Code.Stored.{Entries, Rows}
 use Rattle.plain_run.specs.Values.{seen_value}
 use Rattle.plain_run.proofs.TableLaws.{same_name, IsFilled-more}
 

@@ -18,12 +18,12 @@ use Rattle.plain_run.specs.declared.frame.Frame.{Frame}
 use Rattle.plain_run.specs.declared.machine.Machine.{Machine}
 use Rattle.plain_run.specs.declared.value.Value.{Value}
 use Rattle.plain_run.specs.declared.value.Value.TheVariants.{Num, Null}
-use Rattle.plain_run.specs.Actions.{Call, done}
-use Rattle.plain_run.specs.Calls.{Arguments, after_value, values_in}
-use Rattle.plain_run.specs.Frames.{seen_frame, seen_frames}
+use Rattle.plain_run.specs.Code.Actions.{Call, done}
+use Rattle.plain_run.specs.Code.Calls.{Arguments, after_value, values_in}
+use Rattle.plain_run.specs.Code.Frames.{seen_frame, seen_frames}
 use Rattle.plain_run.specs.Machines.{config_if, program_of, store_of, behind_statement, look_in}
-use Rattle.plain_run.specs.Names.{seen_values, seen_rows}
-use Rattle.plain_run.specs.Stored.{Entries, Rows, store_with}
+use Rattle.plain_run.specs.Code.Names.{seen_values, seen_rows}
+use Rattle.plain_run.specs.Code.Stored.{Entries, Rows, store_with}
 use Rattle.plain_run.specs.Values.{seen_value}
 use Rattle.plain_run.proofs.FrameLaws.{seen_frames-push}
 use Rattle.plain_run.proofs.StoreLaws.{all_names}

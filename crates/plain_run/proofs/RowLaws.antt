@@ -4,8 +4,8 @@ use Rattle.std.specs.Map.{set_value}
 use Rattle.std.specs.Str.{bytes_eq}
 use Rattle.c_lang.specs.Names.{Bytes}
 use Rattle.plain_run.specs.Steps.{updated, row_with}
-use Rattle.plain_run.specs.Names.{found, row_or_empty, seen_rows}
-use Rattle.plain_run.specs.Stored.{Rows, StoresElement}
+use Rattle.plain_run.specs.Code.Names.{found, row_or_empty, seen_rows}
+use Rattle.plain_run.specs.Code.Stored.{Rows, StoresElement}
 use Rattle.plain_run.proofs.StoreLaws.{all_names}
 use Rattle.plain_run.proofs.TableLaws.{at_test, found-set, from_true}
 

@@ -8,11 +8,11 @@ use Rattle.c_lang.specs.declared.stmt.Dest.{Dest}
 use Rattle.c_lang.specs.declared.stmt.Stmt.{Stmt, out-Stmt}
 use Rattle.plain_run.specs.declared.step.Step.{Step}
 use Rattle.plain_run.specs.declared.step.RunError.{RunError}
-use Rattle.plain_run.specs.Actions.{Action, Return, asked, done}
-use Rattle.plain_run.specs.Frames.{first_statement, behind_first, frame_with}
+use Rattle.plain_run.specs.Code.Actions.{Action, Return, asked, done}
+use Rattle.plain_run.specs.Code.Frames.{first_statement, behind_first, frame_with}
 use Rattle.plain_run.specs.Machines.{config_if}
 use Rattle.plain_run.specs.Runs.{Makes_or_fails}
-use Rattle.plain_run.specs.Stored.{Entries}
+use Rattle.plain_run.specs.Code.Stored.{Entries}
 use Rattle.plain_run.proofs.ActionLaws.{done-asked}
 
 module _ (P : Program) (g : Store) (fs : List PlainFrame) (locals : Entries) (dest : Dest) (gives : Bool) where

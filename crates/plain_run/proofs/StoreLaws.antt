@@ -11,9 +11,9 @@ use Rattle.c_lang.specs.declared.program.Program.{Program}
 use Rattle.c_lang.specs.declared.stmt.Dest.TheVariants.{Into, Fresh}
 use Rattle.c_lang.specs.declared.stmt.Kind.{Kind}
 use Rattle.plain_run.specs.declared.value.Value.{Value}
-use Rattle.plain_run.specs.Frames.{frame_with}
-use Rattle.plain_run.specs.Names.{found, value_or_zero, seen_locals, seen_values}
-use Rattle.plain_run.specs.Stored.{Entries, store_with, Stores}
+use Rattle.plain_run.specs.Code.Frames.{frame_with}
+use Rattle.plain_run.specs.Code.Names.{found, value_or_zero, seen_locals, seen_values}
+use Rattle.plain_run.specs.Code.Stored.{Entries, store_with, Stores}
 use Rattle.plain_run.specs.Values.{seen_value}
 use Rattle.plain_run.proofs.TableLaws.{same_name, seen-insert}
 

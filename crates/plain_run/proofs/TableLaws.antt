@@ -7,7 +7,7 @@ use Rattle.std.proofs.lemmas.Slice.Eq.{bytes_eq-Decides}
 use Rattle.indexmap.specs.IndexMap.{insert_entry}
 use Rattle.c_lang.specs.Names.{Bytes}
 use Rattle.plain_run.specs.Steps.{updated}
-use Rattle.plain_run.specs.Names.{found}
+use Rattle.plain_run.specs.Code.Names.{found}
 
 abbrev pub same_name : Bor Bytes → Bor Bytes → Bool
 same_name k n = bytes_eq k.now n.now

@@ -2,13 +2,6 @@ pub mod Moves
 pub mod Steps
 pub mod PlainRun
 pub mod Values
-pub mod Names
-pub mod Tables
-pub mod Scopes
-pub mod Frames
-pub mod Calls
-pub mod Stored
-pub mod Actions
-pub mod SeenActions
 pub mod Runs
 pub mod Machines
+pub mod Code

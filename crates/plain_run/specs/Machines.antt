@@ -12,10 +12,10 @@ use Rattle.plain_run.specs.declared.machine.Machine.{Machine}
 use Rattle.plain_run.specs.declared.frame.Frame.{Frame}
 use Rattle.plain_run.specs.declared.step.Step.{Step}
 use Rattle.plain_run.specs.declared.step.RunError.{RunError}
-use Rattle.plain_run.specs.Actions.{Action, done}
-use Rattle.plain_run.specs.Frames.{frame_with, dest_of, seen_items, behind_first, seen_frame, seen_frames}
+use Rattle.plain_run.specs.Code.Actions.{Action, done}
+use Rattle.plain_run.specs.Code.Frames.{frame_with, dest_of, seen_items, behind_first, seen_frame, seen_frames}
 use Rattle.plain_run.specs.Runs.{Makes_or_fails}
-use Rattle.plain_run.specs.Stored.{store_with}
+use Rattle.plain_run.specs.Code.Stored.{store_with}
 
 -- the program that it runs
 abbrev pub program_of : Machine → Program

@@ -2,9 +2,9 @@
 
 ghost use Rattle.std.specs.Prelude.{◌≡◌};
 ghost use Rattle.c_lang.specs.declared.stmt.Stmt.{out-Stmt};
-ghost use Rattle.plain_run.specs.Actions.{asked};
-ghost use Rattle.plain_run.specs.SeenActions.{seen_action};
-ghost use Rattle.plain_run.specs.Scopes.{look_of};
+ghost use Rattle.plain_run.specs.Code.Actions.{asked};
+ghost use Rattle.plain_run.specs.Code.SeenActions.{seen_action};
+ghost use Rattle.plain_run.specs.Code.Scopes.{look_of};
 
 use crate::eval::Scope;
 use crate::value::Value;

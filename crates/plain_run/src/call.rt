@@ -6,9 +6,9 @@ ghost use Rattle.plain_run.specs.PlainRun.{plain_access};
 ghost use Rattle.c_lang.specs.Programs.{no_func};
 ghost use Rattle.plain_run.specs.Steps.{bound, frame_of};
 ghost use Rattle.c_lang.specs.declared.program.Program.{Program};
-ghost use Rattle.plain_run.specs.Calls.{first_or_zero};
-ghost use Rattle.plain_run.specs.Frames.{dest_of, seen_frame};
-ghost use Rattle.plain_run.specs.Names.{seen_locals};
+ghost use Rattle.plain_run.specs.Code.Calls.{first_or_zero};
+ghost use Rattle.plain_run.specs.Code.Frames.{dest_of, seen_frame};
+ghost use Rattle.plain_run.specs.Code.Names.{seen_locals};
 ghost use Rattle.plain_run.specs.Values.{seen_value};
 
 use crate::frame::{Frame, Rest};

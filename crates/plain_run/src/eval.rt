@@ -4,8 +4,8 @@ ghost use Rattle.std.specs.Prelude.{◌≡◌, IfOk};
 ghost use Rattle.std.specs.Str.{bytes_eq};
 ghost use Rattle.c_lang.specs.Trees.{expression_of};
 ghost use Rattle.c_lang.specs.Evaluation.{ev, element_at};
-ghost use Rattle.plain_run.specs.Calls.{seen_arguments, values_in};
-ghost use Rattle.plain_run.specs.Scopes.{look_of};
+ghost use Rattle.plain_run.specs.Code.Calls.{seen_arguments, values_in};
+ghost use Rattle.plain_run.specs.Code.Scopes.{look_of};
 ghost use Rattle.plain_run.specs.Values.{seen_value, seen_answer};
 
 use crate::names::{Rows, Values};

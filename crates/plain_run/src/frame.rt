@@ -1,10 +1,9 @@
 //! A call that hasn't returned.
 
-ghost use Rattle.std.specs.Prelude.{◌≡◌, ◌≤◌, [], ◌∷◌, ◌++◌, map, OnOk, OnErr};
-ghost use Rattle.std.specs.Prelude.{vec_len, vec_capacity};
+ghost use Rattle.std.specs.Prelude.{◌≡◌, ◌≤◌, [], ◌∷◌, ◌++◌, map, OnOk, OnErr, vec_len, vec_capacity};
 ghost use Rattle.std.specs.Option.{option_copied};
 ghost use Rattle.plain_run.specs.Steps.{Does, Mark, after_mark};
-ghost use Rattle.plain_run.specs.Frames.{seen_items, first_statement, behind_first};
+ghost use Rattle.plain_run.specs.Code.Frames.{seen_items, first_statement, behind_first};
 
 use crate::names::Values;
 use c_lang::{Dest, Stmt};

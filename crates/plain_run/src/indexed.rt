@@ -23,7 +23,7 @@ impl<'p> Model for IndexedProgram<'p> {
 
     ghost coded = { Prim.hlevel (codes, the_program.the_row.coded) };
 
-    ghost use Rattle.plain_run.specs.Tables.{HasFuncs};
+    ghost use Rattle.plain_run.specs.Code.Tables.{HasFuncs};
 
     ghost view = { λ p. p.program.now };
 

@@ -1,9 +1,8 @@
 //! The globals at the start of a run. Of several with one name the first counts.
 
 ghost use Rattle.std.specs.Prelude.{◌≡◌, IfOk, List, ℕ};
-ghost use Rattle.c_lang.specs.Programs.{global_named, initial_value, initial_row};
-ghost use Rattle.c_lang.specs.Programs.{shape_value, shape_row};
-ghost use Rattle.plain_run.specs.Names.{seen_values, seen_rows};
+ghost use Rattle.c_lang.specs.Programs.{global_named, initial_value, initial_row, shape_value, shape_row};
+ghost use Rattle.plain_run.specs.Code.Names.{seen_values, seen_rows};
 ghost use Rattle.plain_run.specs.Values.{seen_value};
 
 use crate::names::{Rows, Values};

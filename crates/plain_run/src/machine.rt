@@ -1,7 +1,6 @@
-ghost use Rattle.std.specs.Prelude.{◌≡◌, ◌<◌, ◌≤◌, false, ℤ, List, map, vec_len};
-ghost use Rattle.std.specs.Prelude.{Ok, Err, IfOk, OnErr, IsErrOf};
+ghost use Rattle.std.specs.Prelude.{◌≡◌, ◌<◌, ◌≤◌, false, ℤ, List, map, vec_len, Ok, Err, IfOk, OnErr, IsErrOf};
 ghost use Rattle.plain_run.specs.PlainRun.{start};
-ghost use Rattle.plain_run.specs.Actions as spec;
+ghost use Rattle.plain_run.specs.Code.Actions as spec;
 ghost use Rattle.plain_run.specs.Runs.{frame_count, IsTooDeep, Makes, Makes_or_fails};
 
 use crate::action::{Action, asked};
@@ -36,11 +35,10 @@ pub struct Machine<'p> {
 }
 
 impl<'p> Machine<'p> {
-    ghost use Rattle.plain_run.specs.Frames.{first_statement, seen_items};
-    ghost use Rattle.plain_run.specs.Machines.{HasDone, config_of, program_of};
-    ghost use Rattle.plain_run.specs.Machines.{entering, look_in, move_of};
-    ghost use Rattle.plain_run.specs.Scopes.{look_of};
-    ghost use Rattle.plain_run.specs.SeenActions.{seen_action};
+    ghost use Rattle.plain_run.specs.Code.Frames.{first_statement, seen_items};
+    ghost use Rattle.plain_run.specs.Machines.{HasDone, config_of, program_of, entering, look_in, move_of};
+    ghost use Rattle.plain_run.specs.Code.Scopes.{look_of};
+    ghost use Rattle.plain_run.specs.Code.SeenActions.{seen_action};
     ghost use Rattle.plain_run.specs.Values.{seen_value};
 
     fn scope(&self) -> Scope<'_, 'p>

@@ -2,7 +2,7 @@
 
 ghost use Rattle.std.specs.Prelude.{◌≡◌, false, if◌then◌else◌, OnOk, OnErr};
 ghost use Rattle.plain_run.specs.Steps.{row_with};
-ghost use Rattle.plain_run.specs.Stored.{Stores, StoresElement};
+ghost use Rattle.plain_run.specs.Code.Stored.{Stores, StoresElement};
 
 use crate::value::Value;
 use c_lang::{Dest, Name};

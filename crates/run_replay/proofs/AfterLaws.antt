@@ -9,7 +9,7 @@ use Rattle.plain_run.specs.Runs.{Makes, IsTooDeep, frame_count}
 use Rattle.plain_run.specs.declared.machine.Machine.{Machine}
 use Rattle.plain_run.specs.declared.step.Step.{Step}
 use Rattle.plain_run.specs.declared.step.Step.TheVariants.{Quiet, Shown, Waiting, Stopped}
-use Rattle.run_replay.specs.After.{IsAfter}
+use Rattle.run_replay.specs.Code.After.{IsAfter}
 use Rattle.run_replay.specs.Closes.{IsClose, ShowsItsEnd}
 use Rattle.run_replay.specs.Reached.{after_move}
 use Rattle.run_replay.specs.Replays.{reached_plain, IsPlainClose, GetsDeep}

@@ -1,4 +1,4 @@
 pub mod Reached
 pub mod Closes
 pub mod Replays
-pub mod After
+pub mod Code

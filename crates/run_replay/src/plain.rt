@@ -5,7 +5,7 @@ ghost use Rattle.plain_run.specs.PlainRun.{events};
 ghost use Rattle.plain_run.specs.Machines.{config_of, move_of, program_of};
 ghost use Rattle.run_replay.specs.Closes.{EndsWith, IsClose, IsEnd, IsLast, ShowsItsEnd};
 ghost use Rattle.c_lang.specs.declared.event.Event.{Event};
-ghost use Rattle.run_replay.specs.After.{IsAfter};
+ghost use Rattle.run_replay.specs.Code.After.{IsAfter};
 ghost use Rattle.run_replay.specs.Replays.{GetsDeep, IsPlainClose, StaysShallow};
 
 use crate::replay::{Close, Replay};

@@ -6,12 +6,12 @@ use Rattle.c_lang.specs.Names.{Bytes}
 use Rattle.c_lang.specs.Trees.{statement_of, statements}
 use Rattle.c_lang.specs.declared.program.Func.{Func}
 use Rattle.c_lang.specs.declared.stmt.Stmt.{Stmt}
-use Rattle.state_xform.specs.AllNames.{IsFound, sets_at}
+use Rattle.state_xform.specs.Code.AllNames.{IsFound, sets_at}
 use Rattle.state_xform.specs.Elements.{sets_element_in}
 use Rattle.state_xform.specs.Transformers.{is_filled}
-use Rattle.state_xform.specs.NameSets.{Names, has, IsCommon}
+use Rattle.state_xform.specs.Code.NameSets.{Names, has, IsCommon}
 use Rattle.state_xform.specs.Paths.{always_set}
-use Rattle.state_xform.specs.Walk.{joined, walk, walk_all}
+use Rattle.state_xform.specs.Code.Walk.{joined, walk, walk_all}
 use Rattle.state_xform.specs.declared.always.PathNames.{PathNames}
 use Rattle.state_xform.proofs.NameLaws.{drop-next, one_added}
 use Rattle.state_xform.proofs.PathLaws.{always-set}

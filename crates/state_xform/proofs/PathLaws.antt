@@ -8,7 +8,7 @@ use Rattle.c_lang.specs.Trees.{Statement, Statements, skip, set, set_element, ca
 use Rattle.c_lang.specs.declared.stmt.Dest.{Dest}
 use Rattle.c_lang.specs.declared.stmt.Dest.TheVariants.{Nowhere, Into, Fresh}
 use Rattle.state_xform.specs.Paths.{Path, behind, returned, broken, set_by, goes_on, returned_among, extended, followed_by, paths_of, paths_in, sets_behind, sets_returned, always_set}
-use Rattle.state_xform.specs.Walk.{Sets, found, joined, either, is_set, walk, walk_all}
+use Rattle.state_xform.specs.Code.Walk.{Sets, found, joined, either, is_set, walk, walk_all}
 
 -- ---- tests
 

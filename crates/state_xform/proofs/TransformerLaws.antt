@@ -3,8 +3,8 @@ use Rattle.std.proofs.Common.{◌≡◌, Bool, true, false, not, ◌&&◌, ◌||
 use Rattle.std.specs.Prelude.{if◌then◌else◌, unwrap_or, Result, Ok, Err}
 use Rattle.std.specs.List.{list_all, filter}
 use Rattle.c_lang.specs.Names.{Bytes}
-use Rattle.c_lang.specs.Links.{part, is_shared_cell}
-use Rattle.c_lang.specs.Version as old_new
+use Rattle.version_names.specs.Links.{part, is_shared_cell}
+use Rattle.version_names.specs.Version as old_new
 use Rattle.c_lang.specs.Programs.{global_named, func_named, no_func}
 use Rattle.c_lang.specs.declared.unit.Unit.TheVariants as unit
 use Rattle.c_lang.specs.declared.refusal.Refusal.{Refusal}
@@ -18,7 +18,8 @@ use Rattle.c_types.specs.Names.{Entries, found, smaller}
 use Rattle.c_types.specs.Scopes.{names_version}
 use Rattle.c_types.specs.Checks.{first as or_then, Checked}
 use Rattle.c_types.specs.Functions.{refusal_of_func}
-use Rattle.c_types.specs.Programs.{with_func, with_funcs, wrong_global, cell_limit, refusal_of_protos, first_early}
+use Rattle.c_types.specs.Programs.{with_func, with_funcs, wrong_global, refusal_of_protos, first_early}
+use Rattle.c_lang.specs.Limits.{cell_limit}
 use Rattle.c_types.proofs.Combined.{some_none, both_none, first_none, none_first, at_none, test_false, not_some, either_false}
 use Rattle.version_names.specs.Merged.{merged_name}
 use Rattle.version_names.specs.Parts.{part_at, part_of, is_changed_cell, IsLinked}

@@ -3,7 +3,7 @@ use Rattle.std.specs.Prelude.{◌≡◌, List}
 use Rattle.c_lang.specs.Names.{Bytes}
 use Rattle.c_lang.specs.Trees.{Statements}
 use Rattle.c_lang.specs.declared.program.Func.{Func}
-use Rattle.state_xform.specs.NameSets.{has}
+use Rattle.state_xform.specs.Code.NameSets.{has}
 use Rattle.state_xform.specs.Paths.{always_set}
 use Rattle.state_xform.specs.Transformers.{is_filled}
 use Rattle.state_xform.specs.declared.covering.Covered.{Covered}

@@ -1,10 +1,8 @@
-pub mod AllNames
-pub mod NameSets
 pub mod Paths
 pub mod Elements
-pub mod Walk
 pub mod Visible
 pub mod Transformers
 pub mod Refusals
 pub mod Kept
 pub mod Covered
+pub mod Code

@@ -15,7 +15,8 @@ use Rattle.c_types.specs.Names.{Entries, found, smaller}
 use Rattle.c_types.specs.Scopes.{names_version}
 use Rattle.c_types.specs.Checks.{at_place, first}
 use Rattle.c_types.specs.Functions.{refusal_of_func}
-use Rattle.c_types.specs.Programs.{with_func, with_funcs, wrong_global, cell_limit, refusal_of_protos, resolved_funcs, first_early, first_line}
+use Rattle.c_types.specs.Programs.{with_func, with_funcs, wrong_global, refusal_of_protos, resolved_funcs, first_early, first_line}
+use Rattle.c_lang.specs.Limits.{cell_limit}
 use Rattle.version_names.specs.Merged.{merged_name}
 use Rattle.version_names.specs.declared.part.Origin.TheVariants as origin
 use Rattle.version_names.specs.declared.part.Version.TheVariants as version

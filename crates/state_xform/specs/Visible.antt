@@ -8,7 +8,7 @@ use Rattle.c_lang.specs.declared.program.Program.{Program}
 use Rattle.c_types.specs.declared.means.Means.{Means}
 use Rattle.c_types.specs.declared.means.Means.TheVariants.{Code, Refused}
 use Rattle.c_types.specs.Names.{Entries, added}
-use Rattle.c_types.specs.Functions.{kinds_of, value_of}
+use Rattle.c_types.specs.Functions.{kinds_of, arity_as_value}
 use Rattle.c_types.specs.Programs.{means_of_shape, with_globals}
 use Rattle.version_names.specs.Merged.{merged_name}
 use Rattle.version_names.specs.declared.part.Origin.{Origin}
@@ -21,7 +21,7 @@ use Rattle.version_names.specs.declared.part.Sort2.{Sort2}
 use Rattle.version_names.specs.declared.part.Sort2.TheVariants as sort
 use Rattle.version_names.specs.declared.links.Links.{Links}
 use Rattle.version_names.specs.Parts.{part_by, entries_of}
-use Rattle.version_names.specs.Tables as tables
+use Rattle.version_names.specs.Code.Tables as tables
 
 -- where each name of a version stands
 abbrev pub Parts : Type 0
@@ -45,7 +45,7 @@ with_own_funcs entries (f ∷ fs) = with_own_funcs (added entries f.name (own_fu
 
 -- the name of a version's function is a value as it is there, and 19 refuses a call
 abbrev pub version_func : Func → Means
-version_func f = Code (kinds_of f.params) f.gives (value_of (kinds_of f.params) f.gives) (Some 19)
+version_func f = Code (kinds_of f.params) f.gives (arity_as_value (kinds_of f.params) f.gives) (Some 19)
 
 -- what one version alone has is seen behind a prefix, and its own name is unknown
 abbrev pub with_prefixed : Origin → Entries → Bytes → Means → Entries

@@ -3,10 +3,10 @@
 ghost use Rattle.std.specs.Prelude.{◌≡◌, IfOk, map, true};
 ghost use Rattle.c_lang.specs.Names.{Bytes};
 ghost use Rattle.c_lang.specs.Trees.{statement_of, statements};
-ghost use Rattle.state_xform.specs.AllNames.{IsFound, sets_at};
-ghost use Rattle.state_xform.specs.NameSets.{has};
+ghost use Rattle.state_xform.specs.Code.AllNames.{IsFound, sets_at};
+ghost use Rattle.state_xform.specs.Code.NameSets.{has};
 ghost use Rattle.state_xform.specs.Paths.{always_set};
-ghost use Rattle.state_xform.specs.Walk.{found, joined, either, is_set, walk, walk_all};
+ghost use Rattle.state_xform.specs.Code.Walk.{found, joined, either, is_set, walk, walk_all};
 
 use crate::names::NameSet;
 use c_lang::{Dest, Name, Stmt};

@@ -3,7 +3,7 @@
 ghost use Rattle.std.specs.Prelude.{◌≡◌, ◌||◌, IfOk, OnOk, map};
 ghost use Rattle.c_lang.specs.Names.{Bytes};
 ghost use Rattle.c_lang.specs.Trees.{statement_of, statements};
-ghost use Rattle.state_xform.specs.NameSets.{has};
+ghost use Rattle.state_xform.specs.Code.NameSets.{has};
 ghost use Rattle.state_xform.specs.Elements as spec;
 ghost use Rattle.state_xform.specs.Transformers.{is_filled};
 

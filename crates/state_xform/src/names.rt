@@ -3,7 +3,7 @@
 ghost use Rattle.std.specs.Prelude.{◌≡◌, ◌||◌, OnOk, [], true, false};
 ghost use Rattle.std.specs.Str.{bytes_eq};
 ghost use Rattle.c_lang.specs.Names.{Bytes};
-ghost use Rattle.state_xform.specs.NameSets as spec;
+ghost use Rattle.state_xform.specs.Code.NameSets as spec;
 
 use c_lang::Name;
 use indexmap::IndexSet;
@@ -20,7 +20,7 @@ pub struct NameSet<'p> {
 
 impl<'p> Model for NameSet<'p> {
     ghost use Rattle.std.specs.Prelude.{map};
-    ghost use Rattle.state_xform.specs.NameSets.{Names};
+    ghost use Rattle.state_xform.specs.Code.NameSets.{Names};
 
     ghost Value = { Names };
 

@@ -5,7 +5,7 @@ ghost use Rattle.state_xform.specs.Visible as spec;
 
 use c_lang::{Func, GlobalVar, Name, Program};
 use c_types::declarations::{means_of_shape, outside_of};
-use c_types::functions::{kinds_of, value_of};
+use c_types::functions::{kinds_of, arity_as_value};
 use c_types::{Means, Symbols};
 use std::alloc::{AllocError, Global};
 use version_names::{Links, Origin, Part, Sort2, Version, merged_name};
@@ -27,7 +27,7 @@ fn version_func(alloc: Global, f: &Func) -> Result<Means, AllocError>
     ensures { IfOk result (λ means. means ≡ spec.version_func f.now) }
 {
     let params = kinds_of(alloc, f.params.as_slice())?;
-    let value = value_of(params.as_slice(), f.gives);
+    let value = arity_as_value(params.as_slice(), f.gives);
     Ok(Means::Code {
         params,
         gives: f.gives,

@@ -3,10 +3,9 @@ use Rattle.std.proofs.Common.{◌≡◌, Bool, true, false, if◌then◌else◌,
 use Rattle.std.specs.Borrow.{Bor}
 use Rattle.terms.specs.declared.sym.Sym.{Sym}
 use Rattle.terms.specs.Symbols.{same_sym}
-use Rattle.terms.specs.Trees.{TermTree, number, name, plus, minus, times, divided, remainder, read, truth, ArrayTree, array, stored, FormTree, always, never, at_most, equal, denied, both, either}
+use Rattle.terms.specs.Trees.{TermTree, number, name, plus, minus, times, divided, remainder, read, truth, ArrayTree, array, stored, FormTree, always, never, at_most, equal, denied, both, either, term_tree}
 use Rattle.terms.specs.Replacing.{Change, number_by, array_by, replaced_term, replaced_array, replaced_form, below}
-use Rattle.terms.specs.Trees.{term_tree}
-use Rattle.terms.specs.Replacement.{change_of}
+use Rattle.terms.specs.Code.Replacement.{change_of}
 use Rattle.terms.specs.declared.form.Term.{Term}
 use Rattle.terms.specs.declared.replace.Replacement.{Replacement}
 use Rattle.terms.specs.declared.replace.Replacement.TheVariants as replacement

@@ -4,9 +4,8 @@ use Rattle.std.specs.Ordering.{int_eq}
 use Rattle.terms.specs.declared.sym.Sym.{Sym}
 use Rattle.terms.specs.Symbols.{same_sym}
 use Rattle.terms.specs.Trees.{TermTree, number, name, plus, minus, times, divided, remainder, read, truth, ArrayTree, array, stored, FormTree, always, never, at_most, equal, denied, both, either, FactTree, plain, all}
-use Rattle.terms.specs.Truth.{Interpretation, with_value, with_array, quotient_of, remainder_of, number_of, term_at, array_at, form_at, FactAt}
+use Rattle.terms.specs.Truth.{Interpretation, with_value, with_array, quotient_of, remainder_of, number_of, term_at, array_at, form_at, FactAt, AgreesAt}
 use Rattle.terms.specs.Names.{as_number, as_array, term_names, array_names, is_number, captures}
-use Rattle.terms.specs.Truth.{AgreesAt}
 use Rattle.terms.specs.Replacing.{Change, number_by, array_by, replaced_term, replaced_array, replaced_form, below, replaced_fact, changed, Avoids}
 use Rattle.terms.proofs.Choices.{All-none}
 use Rattle.terms.proofs.NameLaws.{term_at-agree, array_at-agree, AgreesAt-with_value}

@@ -11,7 +11,7 @@ use Rattle.terms.specs.Trees.{TermTree, number, name, plus, minus, times, divide
 use Rattle.terms.specs.Names.{Occurrence, term_names, array_names, form_names, terms_in_term, terms_in_array, terms_in_form}
 use Rattle.terms.specs.Truth.{number_of, term_at, array_at, form_at}
 use Rattle.terms.specs.Valuations.{listed_number, listed_row, element_in, interpretation_of, is_listed, is_small, kept, can_evaluate, term_value, element_value, form_value}
-use Rattle.terms.specs.Operations.{worth, written}
+use Rattle.terms.specs.Code.Operations.{worth, written}
 use Rattle.terms.proofs.TreeLemmas.{tree_levels, array_tree-Store}
 use Rattle.terms.specs.declared.form.Term.{Term}
 use Rattle.terms.specs.declared.form.ArrayTerm.{ArrayTerm}

@@ -3,7 +3,6 @@ pub mod Trees
 pub mod Names
 pub mod Truth
 pub mod Replacing
-pub mod Replacement
 pub mod Valuations
-pub mod Operations
 pub mod Validity
+pub mod Code

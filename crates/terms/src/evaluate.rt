@@ -2,7 +2,7 @@ ghost use Rattle.std.specs.Prelude.{◌≡◌, pos, ◌+ℤ◌, ◌-ℤ◌, ◌*
 ghost use Rattle.terms.specs.Trees.{term_tree, array_tree, form_tree};
 ghost use Rattle.terms.specs.Truth.{quotient_of, remainder_of, number_of};
 ghost use Rattle.terms.specs.Valuations.{kept, term_value, element_value, form_value};
-ghost use Rattle.terms.specs.Operations.{worth, written};
+ghost use Rattle.terms.specs.Code.Operations.{worth, written};
 
 use crate::valuation::element_of;
 use crate::{ArrayTerm, Form, Term, Valuation};
@@ -70,7 +70,7 @@ fn remainder(left: i128, right: i128) -> Option<i128>
 }
 
 impl Operation {
-    #[tactic(auto, unfolding(crate::specs::Operations::worth))]
+    #[tactic(auto, unfolding(crate::specs::Code::Operations::worth))]
     fn apply(self, left: i128, right: i128) -> Option<i128>
         ensures { result ≡ kept (worth self left right) }
     {
@@ -128,7 +128,7 @@ fn value(term: &Term, at: &Valuation) -> Option<i128>
 }
 
 // What an array holds at `index` behind the storing of `value` at `place`, where it held `before`.
-#[tactic(auto, unfolding(crate::specs::Operations::written))]
+#[tactic(auto, unfolding(crate::specs::Code::Operations::written))]
 fn written(index: i128, before: i128, place: i128, value: i128) -> i128
     ensures { result ≡ written index before place value }
 {

@@ -3,7 +3,7 @@ ghost use Rattle.terms.specs.Names.{term_names, array_names, captures};
 ghost use Rattle.terms.specs.Trees.{term_tree, array_tree, form_tree, fact_tree};
 ghost use Rattle.terms.specs.Truth.{Interpretation, with_value, with_array, term_at, array_at, form_at, FactAt};
 ghost use Rattle.terms.specs.Replacing.{number_by, array_by, replaced_term, replaced_array, replaced_form, below, replaced_fact};
-ghost use Rattle.terms.specs.Replacement.{change_of};
+ghost use Rattle.terms.specs.Code.Replacement.{change_of};
 
 use crate::{ArrayTerm, Fact, Form, Sym, Term};
 use sqlite_items::Boxed;

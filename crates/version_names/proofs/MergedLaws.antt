@@ -1,8 +1,7 @@
 -- Merged names tell their origins and their names.
-use Rattle.std.specs.Prelude.{◌≡◌, ℕ, ◌==◌, if◌then◌else◌, List, [], ◌∷◌, ◌++◌, codes}
+use Rattle.std.specs.Prelude.{◌≡◌, ℕ, ◌==◌, if◌then◌else◌, List, [], ◌∷◌, ◌++◌, codes, slice_index}
 use Rattle.std.proofs.Common.{refl, sym, ap, ◌∙◌}
 use Rattle.std.proofs.lemmas.List.{append_cancel_left}
-use Rattle.std.specs.Prelude.{slice_index}
 use Rattle.c_lang.specs.Names.{Bytes}
 use Rattle.version_names.specs.Merged.{prefix, merged_name}
 use Rattle.version_names.specs.declared.part.Origin.{Origin}

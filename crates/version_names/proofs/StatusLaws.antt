@@ -1,7 +1,6 @@
 -- The status of each name is that of its two declarations, and says where it stands.
-use Rattle.std.specs.Prelude.{◌≡◌, ℕ, Bool, true, false, cond, ◌==◌, if◌then◌else◌, List, [], ◌∷◌, map, length, Option, Some, None, is_some, not, ◌&&◌}
+use Rattle.std.specs.Prelude.{◌≡◌, ℕ, Bool, true, false, cond, ◌==◌, if◌then◌else◌, List, [], ◌∷◌, map, length, Option, Some, None, is_some, not, ◌&&◌, Result, IfOk}
 use Rattle.std.specs.declared.alloc.AllocError.{AllocError}
-use Rattle.std.specs.Prelude.{Result, IfOk}
 use Rattle.std.proofs.Common.{refl, sym, ap, ap₂, subst, ◌∙◌}
 use Rattle.std.specs.Str.{bytes_eq}
 use Rattle.std.specs.Option.{option_map}
@@ -9,19 +8,19 @@ use Rattle.std.proofs.lemmas.Slice.Eq.{bytes_eq-Decides}
 use Rattle.c_lang.specs.Names.{Bytes}
 use Rattle.c_lang.specs.Programs.{global_named, func_named}
 use Rattle.c_lang.specs.Kinds.{same_kinds, same_result}
-use Rattle.c_lang.specs.Links.{same_shape, same_head, kinds_of, both_alike, part, is_shared_cell, cell_part, code_part}
+use Rattle.version_names.specs.Links.{same_shape, same_head, kinds_of, both_alike, part, is_shared_cell, cell_part, code_part}
 use Rattle.c_lang.specs.declared.stmt.Kind.{Kind}
 use Rattle.c_lang.specs.declared.program.Shape.{Shape}
 use Rattle.c_lang.specs.declared.program.Shape.TheVariants as shape
 use Rattle.c_lang.specs.declared.program.GlobalVar.{GlobalVar}
 use Rattle.c_lang.specs.declared.program.Func.{Func}
 use Rattle.c_lang.specs.declared.program.Program.{Program}
-use Rattle.version_names.specs.Declarations.{what_of_shape, same_what, kind_of, declared_global, declared_func, declared_as}
+use Rattle.version_names.specs.Code.Declarations.{what_of_shape, same_what, kind_of, declared_global, declared_func, declared_as}
 use Rattle.version_names.specs.Parts.{version_of, part_at, part_of, part_by, is_changed_cell, changed_among, is_changed, changed_by, entries_of, IsLinked}
-use Rattle.version_names.specs.Statuses.{with_whats, status_of_new, with_new, with_old, statuses_of}
-use Rattle.version_names.specs.Tables.{found, added}
+use Rattle.version_names.specs.Code.Statuses.{with_whats, status_of_new, with_new, with_old, statuses_of}
+use Rattle.version_names.specs.Code.Tables.{found, added}
 use Rattle.version_names.specs.declared.declared.What.{What}
-use Rattle.version_names.specs.declared.declared.What.TheVariants.{Number, Row, Pointer, Code}
+use Rattle.version_names.specs.declared.declared.What.TheVariants.{Number, Array, Pointer, Code}
 use Rattle.version_names.specs.declared.declared.Declared.{Declared}
 use Rattle.version_names.specs.declared.links.Links.{Links}
 use Rattle.version_names.specs.declared.part.Version.{Version}

@@ -1,5 +1,7 @@
-pub mod Tables
-pub mod Declarations
-pub mod Statuses
 pub mod Parts
 pub mod Merged
+pub mod Code
+pub mod Home
+pub mod Links
+pub mod Provenance
+pub mod Version

@@ -1,10 +1,10 @@
 -- Where a version's names stand, and which globals changed.
 use Rattle.std.specs.Prelude.{◌≡◌, ℕ, Bool, true, false, not, ◌&&◌, if◌then◌else◌, List, [], ◌∷◌, Option, Some, None, is_some}
 use Rattle.c_lang.specs.Names.{Bytes}
-use Rattle.c_lang.specs.Version as version
-use Rattle.c_lang.specs.Home.{Home, Both, Old, New, Xform, Client, Unlinked}
+use Rattle.version_names.specs.Version as version
+use Rattle.version_names.specs.Home.{Home, Both, Old, New, Xform, Client, Unlinked}
 use Rattle.c_lang.specs.Programs.{global_named}
-use Rattle.c_lang.specs.Links.{is_shared_cell, cell_part, code_part}
+use Rattle.version_names.specs.Links.{is_shared_cell, cell_part, code_part}
 use Rattle.c_lang.specs.declared.program.GlobalVar.{GlobalVar}
 use Rattle.c_lang.specs.declared.program.Program.{Program}
 use Rattle.version_names.specs.declared.part.Version.{Version}
@@ -16,7 +16,7 @@ use Rattle.version_names.specs.declared.part.Sort2.TheVariants.{Cell, Code}
 use Rattle.version_names.specs.declared.status.Status.{Status}
 use Rattle.version_names.specs.declared.status.Status.TheVariants.{Shared, Changed, Removed, Added}
 use Rattle.version_names.specs.declared.links.Links.{Links}
-use Rattle.version_names.specs.Tables.{found}
+use Rattle.version_names.specs.Code.Tables.{found}
 
 abbrev pub version_of : Version → version.Version
 version_of v.Old = version.Old

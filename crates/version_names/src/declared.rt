@@ -1,7 +1,7 @@
 //! The names that a version declares.
 
 ghost use Rattle.std.specs.Prelude.{◌≡◌, IfOk, map};
-ghost use Rattle.version_names.specs.Declarations as spec;
+ghost use Rattle.version_names.specs.Code.Declarations as spec;
 
 use c_lang::{Func, GlobalVar, Kind, Name, Shape, same_kinds, same_result};
 use sqlite_items::Items;
@@ -13,7 +13,7 @@ use std::alloc::{AllocError, Global};
 #[derive(Debug, Drop)]
 pub enum What {
     Number,
-    Row(usize),
+    Array(usize),
     Pointer(u8),
     Code(Items<Kind>, bool),
 }
@@ -25,7 +25,7 @@ impl What {
     {
         match self {
             What::Number => Ok(What::Number),
-            What::Row(size) => Ok(What::Row(*size)),
+            What::Array(size) => Ok(What::Array(*size)),
             What::Pointer(arity) => Ok(What::Pointer(*arity)),
             What::Code(kinds, gives) => Ok(What::Code(
                 Items::from_slice(alloc, kinds.as_slice())?,
@@ -48,7 +48,7 @@ pub fn same_what(a: &What, b: &What) -> bool
 {
     match (a, b) {
         (What::Number, What::Number) => true,
-        (What::Row(m), What::Row(n)) => m == n,
+        (What::Array(m), What::Array(n)) => m == n,
         (What::Pointer(m), What::Pointer(n)) => m == n,
         (What::Code(js, gives), What::Code(ks, other)) => {
             same_kinds(js.as_slice(), ks.as_slice()) && same_result(*gives, *other)
@@ -62,7 +62,7 @@ fn what_of_shape(shape: &Shape) -> What
 {
     match shape {
         Shape::Int(_) => What::Number,
-        Shape::Arr(elements) => What::Row(elements.len()),
+        Shape::Arr(elements) => What::Array(elements.len()),
         Shape::Fp(arity, _) => What::Pointer(*arity),
     }
 }

@@ -2,7 +2,7 @@
 
 ghost use Rattle.std.specs.Prelude.{◌≡◌, IfOk, []};
 ghost use Rattle.std.specs.Option.{option_copied};
-ghost use Rattle.version_names.specs.Statuses as spec;
+ghost use Rattle.version_names.specs.Code.Statuses as spec;
 
 use crate::declared::{Declared, What, same_what};
 use crate::table::Table;

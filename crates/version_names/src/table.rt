@@ -2,7 +2,7 @@
 
 ghost use Rattle.std.specs.Prelude.{◌≡◌, OnOk, []};
 ghost use Rattle.std.specs.Option.{option_copied};
-ghost use Rattle.version_names.specs.Tables as spec;
+ghost use Rattle.version_names.specs.Code.Tables as spec;
 
 use c_lang::Name;
 use indexmap::IndexMap;

@@ -1,7 +1,7 @@
 use Rattle.std.proofs.Common.{arith, sym, subst, ◌-◌, ◌≤◌}
 use Rattle.std.proofs.lemmas.Result.{err_from_is_err_and}
-use Rattle.c_expressions.specs.ExpressionReading as spec
-use Rattle.c_expressions.specs.Seen.{seen}
+use Rattle.c_expressions.specs.Code.ExpressionReading as spec
+use Rattle.c_expressions.specs.Code.Seen.{seen}
 use Rattle.c_expressions.proofs.ExpressionTurns.{IsLeft, begins, goes_on, ends, stops, fails_right, fails_high}
 use Rattle.c_expressions.proofs.expressions.+expression.Goals as goal
 use Rattle.c_expressions.proofs.expressions.+expression.Goals.{expression-in-Some+then-level-least, expression-in_default}

@@ -1,6 +1,6 @@
 use Rattle.std.proofs.Common.{◌≤◌, ◌<◌, ◌+◌, ◌-◌, ◌*◌, length}
-use Rattle.c_expressions.specs.ExpressionReading as spec
-use Rattle.c_expressions.specs.Seen.{seen}
+use Rattle.c_expressions.specs.Code.ExpressionReading as spec
+use Rattle.c_expressions.specs.Code.Seen.{seen}
 use Rattle.c_expressions.proofs.ExpressionTurns.{IsLeft}
 use Rattle.c_expressions.proofs.expressions.+expression.Given as goal
 

@@ -1,6 +1,6 @@
 use Rattle.std.proofs.Common.{◌≡◌, ◌+◌, ◌-◌, ◌≤◌, length, drop}
 use Rattle.std.specs.List.{prefix_len}
-use Rattle.c_lexer.specs.Reading.{is_in}
+use Rattle.c_lexer.specs.Code.Reading.{is_in}
 use Rattle.c_lexer.proofs.bytes.run_of.Given as goal
 
 abbrev pub invariant-loop-end : goal.invariant-loop-end

@@ -1,5 +1,5 @@
 use Rattle.std.proofs.Common.{◌≡◌, ◌≤◌, ◌+◌, drop}
-use Rattle.c_lexer.specs.Lexed as text
+use Rattle.c_grammar.specs.Lexed as text
 use Rattle.c_lexer.proofs.lexer.after_bytes.Given as goal
 
 abbrev pub invariant-loop-byte : goal.invariant-loop-byte

@@ -2,7 +2,7 @@ use Rattle.std.proofs.Common.{◌≤◌, ◌∙◌, sym, subst, length, arith, l
 use Rattle.std.proofs.lemmas.List.{take_rest, length-take}
 use Rattle.std.proofs.lemmas.Bool.{eqb-true}
 use Rattle.std.proofs.lemmas.Result.{err_from_is_err_and}
-use Rattle.c_lexer.specs.Reading as spec
+use Rattle.c_lexer.specs.Code.Reading as spec
 use Rattle.c_lexer.proofs.Turns.{goes_on, fails, ends}
 use Rattle.c_lexer.proofs.lexer.cut.Goals as goal
 

@@ -1,5 +1,5 @@
 use Rattle.std.proofs.Common.{◌≡◌, ◌≤◌, ◌+◌, length}
-use Rattle.c_lexer.specs.Reading as spec
+use Rattle.c_lexer.specs.Code.Reading as spec
 use Rattle.c_lexer.proofs.lexer.cut.Given as goal
 
 abbrev pub invariant-loop-rest : goal.invariant-loop-rest

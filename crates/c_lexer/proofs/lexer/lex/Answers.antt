@@ -1,6 +1,6 @@
 use Rattle.std.proofs.Common.{◌<◌, ◌≤◌, length, arith}
-use Rattle.c_lang.specs.Units.{size_limit}
-use Rattle.c_lexer.specs.Lexed.{too_long}
+use Rattle.c_lang.specs.Limits.{size_limit}
+use Rattle.c_grammar.specs.Lexed.{too_long}
 use Rattle.c_lexer.proofs.LexLaws.{answers, only, first, spans_of}
 use Rattle.c_lexer.proofs.lexer.lex.Goals as goal
 

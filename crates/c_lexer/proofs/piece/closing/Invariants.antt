@@ -1,5 +1,5 @@
 use Rattle.std.proofs.Common.{◌≡◌, ◌+◌, length}
-use Rattle.c_lexer.specs.Reading.{closing}
+use Rattle.c_lexer.specs.Code.Reading.{closing}
 use Rattle.c_lexer.proofs.piece.closing.Given as goal
 
 abbrev pub invariant-loop-text : goal.invariant-loop-text

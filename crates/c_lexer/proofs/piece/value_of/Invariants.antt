@@ -1,5 +1,5 @@
 use Rattle.std.proofs.Common.{◌≡◌, ◌≤◌, drop}
-use Rattle.c_lexer.specs.Reading.{value_from}
+use Rattle.c_lexer.specs.Code.Reading.{value_from}
 use Rattle.c_lexer.proofs.piece.value_of.Given as goal
 
 abbrev pub invariant-loop-byte : goal.invariant-loop-byte

@@ -1,6 +1,6 @@
 use Rattle.std.proofs.Common.{◌≡◌, refl, None}
 use Rattle.c_lang.specs.declared.program.Program.{Program}
-use Rattle.c_lines.specs.Reading.{program}
+use Rattle.c_lines.specs.Code.Reading.{program}
 use Rattle.c_lines.proofs.Programs.{reads, is_program}
 use Rattle.c_lines.proofs.first_form.parse_lines.Goals as goal
 

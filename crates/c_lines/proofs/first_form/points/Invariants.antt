@@ -1,7 +1,7 @@
 use Rattle.std.proofs.Common.{◌≡◌, ◌+◌, ◌≤◌, map, drop}
 use Rattle.std.specs.Prelude.{count_by}
-use Rattle.c_lang.specs.Sources.{is_point}
-use Rattle.c_lines.specs.SourceReading.{action_of}
+use Rattle.c_lines.specs.Sources.{is_point}
+use Rattle.c_lines.specs.Code.SourceReading.{action_of}
 use Rattle.c_lines.proofs.first_form.points.Given as goal
 
 abbrev pub invariant-loop-action : goal.invariant-loop-action

@@ -1,5 +1,5 @@
-use Rattle.c_lines.specs.LayoutReading.{layout_view, piece_view}
-use Rattle.c_lang.specs.Layout.{IsPiece}
+use Rattle.c_lines.specs.Code.LayoutReading.{layout_view, piece_view}
+use Rattle.c_lines.specs.Layout.{IsPiece}
 use Rattle.c_lines.proofs.LayoutWhole.{layout_is}
 use Rattle.c_lines.proofs.SourceIs.{unmapped}
 use Rattle.c_lines.proofs.first_form.read_merge.Goals as goal

@@ -1,7 +1,7 @@
 use Rattle.std.proofs.Common.{◌≤◌, subst}
 use Rattle.std.proofs.lemmas.List.{length-map}
-use Rattle.c_lang.specs.Sources.{FitsAction}
-use Rattle.c_lines.specs.SourceReading.{source_view, action_of}
+use Rattle.c_lines.specs.Sources.{FitsAction}
+use Rattle.c_lines.specs.Code.SourceReading.{source_view, action_of}
 use Rattle.c_lines.proofs.SourceIs.{unmapped}
 use Rattle.c_lines.proofs.Counted.{few_actions, counted_is}
 use Rattle.c_lines.proofs.first_form.read_new.Goals as goal

@@ -1,4 +1,4 @@
-use Rattle.c_lines.specs.SourceReading.{setter_view}
+use Rattle.c_lines.specs.Code.SourceReading.{setter_view}
 use Rattle.c_lines.proofs.Counted.{few_values, counted_setter_is}
 use Rattle.c_lines.proofs.first_form.read_xform.Goals as goal
 

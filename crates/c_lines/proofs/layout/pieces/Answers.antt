@@ -1,4 +1,4 @@
-use Rattle.c_lines.specs.LayoutReading.{piece_view, piece}
+use Rattle.c_lines.specs.Code.LayoutReading.{piece_view, piece}
 use Rattle.c_lines.proofs.Many.{goes_on_seen, ends}
 use Rattle.c_lines.proofs.LayoutIs.{piece_shorter}
 use Rattle.c_lines.proofs.layout.pieces.Goals as goal

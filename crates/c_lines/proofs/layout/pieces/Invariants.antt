@@ -1,6 +1,6 @@
 use Rattle.std.proofs.Common.{length, map}
-use Rattle.c_lines.specs.Readers.{many}
-use Rattle.c_lines.specs.LayoutReading.{piece_view, piece}
+use Rattle.c_lines.specs.Code.Readers.{many}
+use Rattle.c_lines.specs.Code.LayoutReading.{piece_view, piece}
 use Rattle.c_lines.proofs.Many.{IsLeft}
 use Rattle.c_lines.proofs.layout.pieces.Given as goal
 

@@ -1,5 +1,5 @@
 use Rattle.std.proofs.Common.{refl}
-use Rattle.c_lines.specs.LayoutReading.{expansion_parts}
+use Rattle.c_lines.specs.Code.LayoutReading.{expansion_parts}
 use Rattle.c_lines.proofs.layout.read_expansion.Goals as goal
 
 pub returns-clause-parts : goal.returns-clause-parts

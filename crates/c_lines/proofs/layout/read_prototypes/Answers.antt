@@ -1,5 +1,5 @@
 use Rattle.std.proofs.Common.{refl}
-use Rattle.c_lines.specs.LayoutReading.{prototypes}
+use Rattle.c_lines.specs.Code.LayoutReading.{prototypes}
 use Rattle.c_lines.proofs.layout.read_prototypes.Goals as goal
 
 pub returns-in_err-main : goal.returns-in_err-main

@@ -1,5 +1,5 @@
 use Rattle.std.proofs.Common.{refl}
-use Rattle.c_lines.specs.LayoutReading.{start}
+use Rattle.c_lines.specs.Code.LayoutReading.{start}
 use Rattle.c_lines.proofs.layout.read_start.Goals as goal
 
 pub returns : goal.returns

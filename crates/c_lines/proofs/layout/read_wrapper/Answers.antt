@@ -1,5 +1,5 @@
 use Rattle.std.proofs.Common.{refl}
-use Rattle.c_lines.specs.LayoutReading.{wrapper}
+use Rattle.c_lines.specs.Code.LayoutReading.{wrapper}
 use Rattle.c_lines.proofs.layout.read_wrapper.Goals as goal
 
 pub returns : goal.returns

@@ -1,4 +1,4 @@
-use Rattle.c_lines.specs.LayoutReading.{placed_setting}
+use Rattle.c_lines.specs.Code.LayoutReading.{placed_setting}
 use Rattle.c_lines.proofs.Many.{goes_on_grown, ends}
 use Rattle.c_lines.proofs.LayoutIs.{placed_setting_shorter}
 use Rattle.c_lines.proofs.layout.settings.Goals as goal

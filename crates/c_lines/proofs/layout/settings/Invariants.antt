@@ -1,6 +1,6 @@
 use Rattle.std.proofs.Common.{length}
-use Rattle.c_lines.specs.Readers.{many}
-use Rattle.c_lines.specs.LayoutReading.{placed_setting}
+use Rattle.c_lines.specs.Code.Readers.{many}
+use Rattle.c_lines.specs.Code.LayoutReading.{placed_setting}
 use Rattle.c_lines.proofs.Many.{IsLeft}
 use Rattle.c_lines.proofs.layout.settings.Given as goal
 

@@ -1,5 +1,5 @@
 use Rattle.std.proofs.Common.{◌≡◌, map, take}
-use Rattle.c_lines.specs.LayoutReading.{set_statement}
+use Rattle.c_lines.specs.Code.LayoutReading.{set_statement}
 use Rattle.c_lines.proofs.layout_program.transform_body.Given as goal
 
 abbrev pub invariant-loop-set : goal.invariant-loop-set

@@ -1,6 +1,6 @@
 use Rattle.std.proofs.Common.{◌≡◌, map, take}
-use Rattle.c_lang.specs.Layout.{piece_statement}
-use Rattle.c_lines.specs.LayoutReading.{piece_view}
+use Rattle.c_lines.specs.Layout.{piece_statement}
+use Rattle.c_lines.specs.Code.LayoutReading.{piece_view}
 use Rattle.c_lines.proofs.layout_program.version_body.Given as goal
 
 abbrev pub invariant-loop-piece : goal.invariant-loop-piece

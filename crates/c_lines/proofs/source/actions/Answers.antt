@@ -1,4 +1,4 @@
-use Rattle.c_lines.specs.SourceReading.{action_of, action_line}
+use Rattle.c_lines.specs.Code.SourceReading.{action_of, action_line}
 use Rattle.c_lines.proofs.Many.{goes_on_seen, ends}
 use Rattle.c_lines.proofs.SourceLaws.{action_shorter}
 use Rattle.c_lines.proofs.source.actions.Goals as goal

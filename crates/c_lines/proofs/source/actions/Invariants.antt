@@ -1,6 +1,6 @@
 use Rattle.std.proofs.Common.{length, map}
-use Rattle.c_lines.specs.Readers.{many}
-use Rattle.c_lines.specs.SourceReading.{action_of, action_line}
+use Rattle.c_lines.specs.Code.Readers.{many}
+use Rattle.c_lines.specs.Code.SourceReading.{action_of, action_line}
 use Rattle.c_lines.proofs.Many.{IsLeft}
 use Rattle.c_lines.proofs.source.actions.Given as goal
 

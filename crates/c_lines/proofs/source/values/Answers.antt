@@ -1,4 +1,4 @@
-use Rattle.c_lines.specs.SourceReading.{setting}
+use Rattle.c_lines.specs.Code.SourceReading.{setting}
 use Rattle.c_lines.proofs.Many.{goes_on_grown, ends}
 use Rattle.c_lines.proofs.SourceLaws.{setting_shorter}
 use Rattle.c_lines.proofs.source.values.Goals as goal

@@ -1,6 +1,6 @@
 use Rattle.std.proofs.Common.{length}
-use Rattle.c_lines.specs.Readers.{many}
-use Rattle.c_lines.specs.SourceReading.{setting}
+use Rattle.c_lines.specs.Code.Readers.{many}
+use Rattle.c_lines.specs.Code.SourceReading.{setting}
 use Rattle.c_lines.proofs.Many.{IsLeft}
 use Rattle.c_lines.proofs.source.values.Given as goal
 

@@ -1,6 +1,6 @@
 use Rattle.std.proofs.Common.{◌≡◌, ◌+◌, ◌++◌, map, drop}
-use Rattle.c_lang.specs.Sources.{main_body}
-use Rattle.c_lines.specs.SourceReading.{action_of}
+use Rattle.c_lines.specs.Sources.{main_body}
+use Rattle.c_lines.specs.Code.SourceReading.{action_of}
 use Rattle.c_lines.proofs.source_program.main_body.Given as goal
 
 abbrev pub invariant-loop-action : goal.invariant-loop-action

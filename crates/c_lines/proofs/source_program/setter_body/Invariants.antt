@@ -1,5 +1,5 @@
 use Rattle.std.proofs.Common.{◌≡◌, ◌+◌, ◌++◌, drop}
-use Rattle.c_lang.specs.Sources.{setter_body}
+use Rattle.c_lines.specs.Sources.{setter_body}
 use Rattle.c_lines.proofs.source_program.setter_body.Given as goal
 
 abbrev pub invariant-loop-value : goal.invariant-loop-value

@@ -1,5 +1,5 @@
 use Rattle.std.proofs.Common.{◌≡◌, drop}
-use Rattle.c_lines.specs.Readers.{behind}
+use Rattle.c_lines.specs.Code.Readers.{behind}
 use Rattle.c_lines.proofs.text.behind.Given as goal
 
 abbrev pub invariant-loop-wanted : goal.invariant-loop-wanted

@@ -1,5 +1,5 @@
 use Rattle.std.proofs.Common.{◌≡◌, ◌≤◌, drop}
-use Rattle.c_lines.specs.Readers.{value_from}
+use Rattle.c_lines.specs.Code.Readers.{value_from}
 use Rattle.c_lines.proofs.text.value_from.Given as goal
 
 abbrev pub invariant-loop-byte : goal.invariant-loop-byte

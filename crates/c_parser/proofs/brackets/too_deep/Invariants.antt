@@ -1,5 +1,5 @@
 use Rattle.std.proofs.Common.{◌≡◌, ◌≤◌, drop}
-use Rattle.c_parser.specs.Nesting.{too_deep}
+use Rattle.c_grammar.specs.Nesting.{too_deep}
 use Rattle.c_parser.proofs.brackets.too_deep.Given as goal
 
 abbrev pub invariant-loop-token : goal.invariant-loop-token

@@ -1,6 +1,6 @@
 use Rattle.std.proofs.Common.{◌≡◌, drop}
-use Rattle.c_statements.specs.Seen.{seen_scope}
-use Rattle.c_parser.specs.Units as units
+use Rattle.c_statements.specs.Code.Seen.{seen_scope}
+use Rattle.c_grammar.specs.Units as units
 use Rattle.c_parser.proofs.functions.body_start.Given as goal
 
 abbrev pub invariant-loop-param : goal.invariant-loop-param

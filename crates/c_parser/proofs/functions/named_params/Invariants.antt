@@ -1,5 +1,5 @@
 use Rattle.std.proofs.Common.{[], ◌≡◌, drop}
-use Rattle.c_parser.specs.UnitReading as spec
+use Rattle.c_parser.specs.Code.UnitReading as spec
 use Rattle.c_parser.proofs.functions.named_params.Given as goal
 
 abbrev pub invariant-loop-param : goal.invariant-loop-param

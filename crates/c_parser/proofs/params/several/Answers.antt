@@ -1,6 +1,6 @@
 use Rattle.std.proofs.Common.{arith, sym, refl, ◌+◌, ◌<◌, length}
 use Rattle.std.proofs.lemmas.Result.{err_from_is_err_and}
-use Rattle.c_parser.specs.UnitReading as spec
+use Rattle.c_parser.specs.Code.UnitReading as spec
 use Rattle.c_expressions.proofs.SeparatedTurns.{goes_on, ends, fails}
 use Rattle.c_parser.proofs.params.several.Goals as goal
 

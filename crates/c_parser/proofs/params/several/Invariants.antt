@@ -1,6 +1,6 @@
 use Rattle.std.proofs.Common.{◌≤◌, ◌+◌, length}
-use Rattle.c_expressions.specs.ParseSteps.{separated}
-use Rattle.c_parser.specs.UnitReading as spec
+use Rattle.c_expressions.specs.Code.ParseSteps.{separated}
+use Rattle.c_parser.specs.Code.UnitReading as spec
 use Rattle.c_expressions.proofs.SeparatedTurns.{IsLeft}
 use Rattle.c_parser.proofs.params.several.Given as goal
 

@@ -1,6 +1,6 @@
 use Rattle.std.proofs.Common.{◌+◌, length}
-use Rattle.c_parser.specs.UnitReading as spec
-use Rattle.c_parser.specs.Units as units
+use Rattle.c_parser.specs.Code.UnitReading as spec
+use Rattle.c_grammar.specs.Units as units
 use Rattle.c_parser.proofs.UnitTurns.{IsLeft}
 use Rattle.c_parser.proofs.units.externals.Given as goal
 

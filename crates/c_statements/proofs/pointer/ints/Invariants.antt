@@ -1,6 +1,6 @@
 use Rattle.std.proofs.Common.{◌≤◌, ◌+◌, length}
-use Rattle.c_expressions.specs.ParseSteps.{separated}
-use Rattle.c_statements.specs.StatementReading as spec
+use Rattle.c_expressions.specs.Code.ParseSteps.{separated}
+use Rattle.c_statements.specs.Code.StatementReading as spec
 use Rattle.c_expressions.proofs.SeparatedTurns.{IsLeft}
 use Rattle.c_statements.proofs.pointer.ints.Given as goal
 

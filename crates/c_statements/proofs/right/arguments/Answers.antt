@@ -1,7 +1,7 @@
 use Rattle.std.proofs.Common.{arith, sym, refl, ◌+◌, ◌<◌, length}
 use Rattle.std.proofs.lemmas.Result.{err_from_is_err_and}
-use Rattle.c_statements.specs.StatementReading as spec
-use Rattle.c_statements.specs.Seen.{seen_args}
+use Rattle.c_statements.specs.Code.StatementReading as spec
+use Rattle.c_statements.specs.Code.Seen.{seen_args}
 use Rattle.c_expressions.proofs.SeparatedTurns.{goes_on, ends, fails}
 use Rattle.c_statements.proofs.right.arguments.Goals as goal
 

@@ -1,7 +1,7 @@
 use Rattle.std.proofs.Common.{◌≤◌, ◌+◌, max, length}
-use Rattle.c_expressions.specs.ParseSteps.{separated}
-use Rattle.c_statements.specs.StatementReading as spec
-use Rattle.c_statements.specs.Seen.{seen_args}
+use Rattle.c_expressions.specs.Code.ParseSteps.{separated}
+use Rattle.c_statements.specs.Code.StatementReading as spec
+use Rattle.c_statements.specs.Code.Seen.{seen_args}
 use Rattle.c_expressions.proofs.SeparatedTurns.{IsLeft}
 use Rattle.c_statements.proofs.right.arguments.Given as goal
 

@@ -1,5 +1,5 @@
 use Rattle.std.proofs.Common.{◌∙◌}
-use Rattle.c_statements.specs.Scopes.{temporary}
+use Rattle.c_grammar.specs.Scopes.{temporary}
 use Rattle.c_statements.proofs.scope.temporary.Goals as goal
 
 pub returns : goal.returns

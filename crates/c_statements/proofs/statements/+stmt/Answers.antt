@@ -1,7 +1,7 @@
 use Rattle.std.proofs.Common.{sym, arith, ◌≡◌, ◌≤◌}
 use Rattle.std.proofs.lemmas.Result.{err_from_is_err_and}
-use Rattle.c_statements.specs.StatementReading as spec
-use Rattle.c_statements.specs.Seen.{seen_read, seen_scope}
+use Rattle.c_statements.specs.Code.StatementReading as spec
+use Rattle.c_statements.specs.Code.Seen.{seen_read, seen_scope}
 use Rattle.c_statements.proofs.StatementTurns.{goes_on, ends, fails, stmt_below, stmt_zero}
 use Rattle.c_statements.proofs.statements.+stmt.Goals as goal
 

@@ -1,6 +1,6 @@
 use Rattle.std.proofs.Common.{◌≤◌, ◌+◌, ◌*◌, length}
-use Rattle.c_statements.specs.StatementReading as spec
-use Rattle.c_statements.specs.Seen.{seen_read, seen_scope}
+use Rattle.c_statements.specs.Code.StatementReading as spec
+use Rattle.c_statements.specs.Code.Seen.{seen_read, seen_scope}
 use Rattle.c_statements.proofs.StatementTurns.{IsLeft}
 use Rattle.c_statements.proofs.statements.+stmt.Given as goal
 

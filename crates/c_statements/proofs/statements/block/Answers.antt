@@ -1,4 +1,4 @@
-use Rattle.c_statements.specs.Seen.{seen_read, seen_scope}
+use Rattle.c_statements.specs.Code.Seen.{seen_read, seen_scope}
 use Rattle.c_statements.proofs.BlockLaws.{answers}
 use Rattle.c_statements.proofs.statements.block.Goals as goal
 

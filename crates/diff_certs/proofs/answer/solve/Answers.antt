@@ -1,5 +1,5 @@
 use Rattle.std.proofs.Common.{subst}
-use Rattle.diff_certs.specs.Distances.{IsPass, AreStable}
+use Rattle.diff_certs.specs.Code.Distances.{IsPass, AreStable}
 use Rattle.diff_certs.proofs.WalkLaws.{cycle-refutes}
 use Rattle.diff_certs.proofs.DistanceLaws.{start-known}
 use Rattle.diff_certs.specs.Answer.{IsShifted}

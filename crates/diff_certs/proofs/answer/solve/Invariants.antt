@@ -1,4 +1,4 @@
-use Rattle.diff_certs.specs.Distances.{AreReached, weight}
+use Rattle.diff_certs.specs.Code.Distances.{AreReached, weight}
 use Rattle.diff_certs.proofs.answer.solve.Given as goal
 
 abbrev pub invariant-loop-first : goal.invariant-loop-first

@@ -1,7 +1,7 @@
 use Rattle.std.proofs.Common.{◌∙◌, arith, ap}
 use Rattle.std.proofs.lemmas.Int.{ints}
 use Rattle.diff_certs.specs.Rows.{node}
-use Rattle.diff_certs.specs.Distances.{distance_at}
+use Rattle.diff_certs.specs.Code.Distances.{distance_at}
 use Rattle.diff_certs.proofs.WalkLaws.{right-below, inside-at}
 use Rattle.diff_certs.proofs.DistanceLaws.{distance-bounds}
 use Rattle.diff_certs.proofs.distances.distance_by_row.Goals as goal

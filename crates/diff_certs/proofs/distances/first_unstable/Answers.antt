@@ -1,5 +1,5 @@
 use Rattle.std.proofs.Common.{arith}
-use Rattle.diff_certs.specs.Distances.{IsStable}
+use Rattle.diff_certs.specs.Code.Distances.{IsStable}
 use Rattle.diff_certs.proofs.DistanceLaws.{below-next}
 use Rattle.diff_certs.proofs.distances.first_unstable.Goals as goal
 

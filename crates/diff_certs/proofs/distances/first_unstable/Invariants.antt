@@ -1,5 +1,5 @@
 use Rattle.std.proofs.Common.{ℕ, ◌≤◌, ◌<◌, ◌-◌, length}
-use Rattle.diff_certs.specs.Distances.{IsStable}
+use Rattle.diff_certs.specs.Code.Distances.{IsStable}
 use Rattle.diff_certs.proofs.distances.first_unstable.Given as goal
 
 abbrev pub invariant-loop-number : goal.invariant-loop-number

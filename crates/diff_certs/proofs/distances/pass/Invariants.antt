@@ -1,5 +1,5 @@
 use Rattle.std.proofs.Common.{◌≤◌, ◌<◌, ◌-◌, length}
-use Rattle.diff_certs.specs.Distances.{AreReached, weight}
+use Rattle.diff_certs.specs.Code.Distances.{AreReached, weight}
 use Rattle.diff_certs.proofs.distances.pass.Given as goal
 
 abbrev pub invariant-loop-number : goal.invariant-loop-number

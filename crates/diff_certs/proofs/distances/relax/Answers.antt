@@ -1,8 +1,8 @@
 use Rattle.std.proofs.Common.{◌≡◌, ◌∙◌, ◌<◌, arith, ap, sym, subst, get_or, set, ◌<ℤ◌}
 use Rattle.std.proofs.lemmas.Int.{ints}
 use Rattle.diff_certs.specs.Rows.{node, left_at, right_at}
-use Rattle.diff_certs.specs.Distances.{distance_at, weight}
-use Rattle.diff_certs.specs.Walks.{IsLonger}
+use Rattle.diff_certs.specs.Code.Distances.{distance_at, weight}
+use Rattle.diff_certs.specs.Code.Walks.{IsLonger}
 use Rattle.diff_certs.proofs.WalkLaws.{right-below, left-below}
 use Rattle.diff_certs.proofs.DistanceLaws.{put-less, distance-is}
 use Rattle.diff_certs.proofs.distances.relax.Goals as goal

@@ -1,6 +1,6 @@
 use Rattle.std.proofs.Common.{◌≡◌, ◌≤◌, ◌-◌, length}
 use Rattle.std.specs.List.{All}
-use Rattle.diff_certs.specs.Distances.{IsEmpty}
+use Rattle.diff_certs.specs.Code.Distances.{IsEmpty}
 use Rattle.diff_certs.proofs.distances.start.Given as goal
 
 abbrev pub invariant-loop-count : goal.invariant-loop-count

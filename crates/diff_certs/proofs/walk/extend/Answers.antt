@@ -2,7 +2,7 @@ use Rattle.std.proofs.Common.{◌≡◌, ◌∙◌, ◌≤◌, ◌∷◌, length
 use Rattle.std.proofs.lemmas.Int.{ints}
 use Rattle.std.specs.Prelude.{Some, None}
 use Rattle.diff_certs.specs.Rows.{left_at, row_at, node}
-use Rattle.diff_certs.specs.Walks.{IsPlace, AreRows}
+use Rattle.diff_certs.specs.Code.Walks.{IsPlace, AreRows}
 use Rattle.diff_certs.proofs.WalkLaws.{longer-rows, longer-short, reached-bounds, right-below, inside-at, longer-new, longer-cut, ok-map}
 use Rattle.diff_certs.proofs.walk.extend.Goals as goal
 

@@ -1,7 +1,7 @@
 use Rattle.std.proofs.Common.{◌≡◌, ◌≤◌, ◌-◌, take, length, false}
 use Rattle.std.specs.Prelude.{nat_eq}
 use Rattle.std.specs.List.{list_any}
-use Rattle.diff_certs.specs.Walks.{rights}
+use Rattle.diff_certs.specs.Code.Walks.{rights}
 use Rattle.diff_certs.proofs.walk.position_of_side.Given as goal
 
 abbrev pub invariant-loop-at : goal.invariant-loop-at

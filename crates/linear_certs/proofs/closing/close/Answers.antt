@@ -3,7 +3,7 @@ use Rattle.std.specs.List.{list_all}
 use Rattle.linear_rows.specs.Numbers.{fits}
 use Rattle.linear_rows.specs.Sums.{row_fits}
 use Rattle.linear_certs.specs.Stages.{is_false}
-use Rattle.linear_certs.specs.Building.{IsDerived, IsGood}
+use Rattle.linear_certs.specs.Code.Building.{IsDerived, IsGood}
 use Rattle.linear_certs.proofs.DerivedLaws.{combined-derived, combined-good}
 use Rattle.linear_certs.proofs.closing.close.Goals as goal
 

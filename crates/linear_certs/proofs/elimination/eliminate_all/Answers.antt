@@ -3,7 +3,7 @@ use Rattle.std.specs.List.{All}
 use Rattle.linear_certs.specs.declared.elimination.Stage.{Stage}
 use Rattle.linear_certs.specs.Stages.{stage, least_atom, eliminated}
 use Rattle.linear_certs.specs.Answers.{NoFalseUpTo}
-use Rattle.linear_certs.specs.Building.{IsGood, AreStages, IsStageAt, IsBuilt}
+use Rattle.linear_certs.specs.Code.Building.{IsGood, AreStages, IsStageAt, IsBuilt}
 use Rattle.linear_certs.proofs.StageLaws.{stage-next, on-ok-of}
 use Rattle.linear_certs.proofs.EliminationLaws.{built-here, stages-push, none-next, first-none, next-smaller, length-push}
 use Rattle.linear_certs.proofs.elimination.eliminate_all.Goals as goal

@@ -2,7 +2,7 @@ use Rattle.std.proofs.Common.{◌≡◌, length}
 use Rattle.std.specs.List.{All}
 use Rattle.linear_certs.specs.Stages.{stage, least_atom}
 use Rattle.linear_certs.specs.Answers.{NoFalseUpTo}
-use Rattle.linear_certs.specs.Building.{IsGood, AreStages}
+use Rattle.linear_certs.specs.Code.Building.{IsGood, AreStages}
 use Rattle.linear_certs.proofs.EliminationLaws.{left_over}
 use Rattle.linear_certs.proofs.elimination.eliminate_all.Given as goal
 

@@ -1,5 +1,5 @@
 use Rattle.std.proofs.Common.{sym, subst}
-use Rattle.linear_certs.specs.Building.{IsOpening}
+use Rattle.linear_certs.specs.Code.Building.{IsOpening}
 use Rattle.linear_certs.proofs.OpeningLaws.{first-opening}
 use Rattle.linear_certs.proofs.given.open_first.Goals as goal
 

@@ -1,7 +1,7 @@
 use Rattle.std.proofs.Common.{◌≡◌, take, length, []}
 use Rattle.std.specs.List.{All}
 use Rattle.linear_certs.specs.Stages.{kept_once, opened}
-use Rattle.linear_certs.specs.Building.{IsGood}
+use Rattle.linear_certs.specs.Code.Building.{IsGood}
 use Rattle.linear_certs.proofs.given.open_rows.Given as goal
 
 abbrev pub invariant-loop-number : goal.invariant-loop-number

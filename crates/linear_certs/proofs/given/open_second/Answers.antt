@@ -1,6 +1,6 @@
 use Rattle.std.proofs.Common.{◌≡◌, ◌∙◌, ap, sym, subst, true, arith}
 use Rattle.linear_rows.specs.Sums.{row_fits}
-use Rattle.linear_certs.specs.Building.{IsOpening}
+use Rattle.linear_certs.specs.Code.Building.{IsOpening}
 use Rattle.linear_certs.proofs.OpeningLaws.{second-opening}
 use Rattle.linear_certs.proofs.given.open_second.Goals as goal
 

@@ -3,7 +3,7 @@ use Rattle.std.specs.Prelude.{unsigned_abs}
 use Rattle.std.specs.Int.{w128}
 use Rattle.std.proofs.lemmas.Int.{to_z-of_z}
 use Rattle.linear_rows.specs.Sums.{dot}
-use Rattle.linear_certs.specs.Answers.{value_of}
+use Rattle.linear_certs.specs.Answers.{coordinate}
 use Rattle.linear_certs.proofs.PointLaws.{dot-next}
 use Rattle.linear_certs.proofs.SizeLaws.{abs-add, abs-mul, part-next, part-last}
 use Rattle.linear_certs.proofs.limit.dot.Goals as goal
@@ -11,7 +11,7 @@ use Rattle.linear_certs.proofs.limit.dot.Goals as goal
 pub returns-in_default-clause-past : goal.returns-in_default-clause-past
 returns-in_default-clause-past c = λ _ m n all nums.
     let parts = c.args.parts.now in
-    let point = value_of c.args.nums.now in
+    let point = coordinate c.args.nums.now in
     let at = c.loop-at.at in
     let part = get_or parts at (0, pos 0) in
     let factor_fits : FitsSigned w128 part.1 = search rules in
@@ -24,7 +24,7 @@ returns-in_default-clause-past c = λ _ m n all nums.
 pub loop-at-preserved : goal.loop-at-preserved
 loop-at-preserved c =
     let parts = c.args.parts.now in
-    let point = value_of c.args.nums.now in
+    let point = coordinate c.args.nums.now in
     let at = c.loop-at.at in
     let inv = c.loop-at.invariant in
     let sum = to_z w128 c.loop-at.sum-bits in

@@ -6,22 +6,22 @@ use Rattle.std.proofs.lemmas.Int.{to_z-of_z}
 use Rattle.std.proofs.lemmas.List.Elements.{All-head}
 use Rattle.linear_rows.specs.Sums.{coefficient}
 use Rattle.linear_certs.specs.declared.limit.Limit.{Limit}
-use Rattle.linear_certs.specs.Answers.{value_of}
-use Rattle.linear_certs.specs.Limits.{room, AreSizes, IsLimitOf}
+use Rattle.linear_certs.specs.Answers.{coordinate}
+use Rattle.linear_certs.specs.Code.Limits.{room, AreSizes, IsLimitOf}
 use Rattle.linear_certs.proofs.SizeLaws.{past-room, past-both, room-size, coefficient-size, if-some}
 use Rattle.linear_certs.proofs.LimitLaws.{limit-is}
 use Rattle.linear_certs.proofs.limit.limit_of.Goals as goal
 
 pub returns-in_err-left-clause-past : goal.returns-in_err-left-clause-past
 returns-in_err-left-clause-past c = λ _ up atoms m b d n sizes.
-    let point = value_of c.args.nums.now in
+    let point = coordinate c.args.nums.now in
     past-room c.args.atom atoms m b d n point c.args.den c.args.entry.now c.requires.has up sizes
     (c.in_err-left.ensures.past refl atoms m b d n (subst (λ over. AreSizes atoms m b d n point over (c.args.entry.now ∷ [])) (sym (to_z-of_z w128 c.args.den c.ranges.den)) sizes))
 
 pub returns-clause-limit : goal.returns-clause-limit
 returns-clause-limit c =
     let e = c.args.entry.now in
-    let point = value_of c.args.nums.now in
+    let point = coordinate c.args.nums.now in
     let left_fits : FitsSigned w128 c.in_ok-left.left = search rules in
     let factor_fits : FitsSigned w128 c.coefficient_of.result = search rules in
     let left_is : to_z w128 (of_z w128 c.in_ok-left.left) ≡ room point c.args.den e
@@ -35,7 +35,7 @@ returns-clause-limit c =
 pub returns-clause-past : goal.returns-clause-past
 returns-clause-past c = λ none up atoms m b d n sizes.
     let e = c.args.entry.now in
-    let point = value_of c.args.nums.now in
+    let point = coordinate c.args.nums.now in
     let left_fits : FitsSigned w128 c.in_ok-left.left = search rules in
     let factor_fits : FitsSigned w128 c.coefficient_of.result = search rules in
     let left_is : to_z w128 (of_z w128 c.in_ok-left.left) ≡ room point c.args.den e

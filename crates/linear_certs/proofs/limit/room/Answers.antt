@@ -5,8 +5,8 @@ use Rattle.std.specs.Int.{w128}
 use Rattle.std.proofs.lemmas.Int.{to_z-of_z}
 use Rattle.std.proofs.lemmas.List.Elements.{All-head}
 use Rattle.linear_rows.specs.Sums.{dot}
-use Rattle.linear_certs.specs.Answers.{value_of}
-use Rattle.linear_certs.specs.Limits.{room}
+use Rattle.linear_certs.specs.Answers.{coordinate}
+use Rattle.linear_certs.specs.Code.Limits.{room}
 use Rattle.linear_certs.proofs.SizeLaws.{past-parts, past-whole, unfit-product, unfit-size, read-size, none-unfit, room-size}
 use Rattle.linear_certs.proofs.limit.room.Goals as goal
 
@@ -14,7 +14,7 @@ pub returns-in_err-rest-clause-past : goal.returns-in_err-rest-clause-past
 returns-in_err-rest-clause-past c = λ _ atoms m b d n sizes.
     let e = c.args.entry.now in
     let small = All-head (λ e. All (λ part. unsigned_abs part.1 ≤ m) e.row.parts) e [] sizes.coefficients in
-    past-parts atoms m b d n (value_of c.args.nums.now) c.args.den e sizes
+    past-parts atoms m b d n (coordinate c.args.nums.now) c.args.den e sizes
     (subst (λ l. 2 ^ 127 ≤ length l * (m * n)) c.as_slice.ensures (c.in_err-rest.ensures.past refl m n (subst (All (λ part. unsigned_abs part.1 ≤ m)) (sym c.as_slice.ensures) small) sizes.nums))
 
 pub returns-in_err-whole-clause-past : goal.returns-in_err-whole-clause-past
@@ -27,7 +27,7 @@ returns-in_err-whole-clause-past c = λ _ atoms m b d n sizes.
 pub returns-clause-past : goal.returns-clause-past
 returns-clause-past c = λ none atoms m b d n sizes.
     let e = c.args.entry.now in
-    let point = value_of c.args.nums.now in
+    let point = coordinate c.args.nums.now in
     let bound_fits : FitsSigned w128 e.row.bound = search rules in
     let whole_fits : FitsSigned w128 c.in_ok-whole.whole = search rules in
     let rest_fits : FitsSigned w128 c.in_ok-rest.rest = search rules in

@@ -2,7 +2,7 @@ use Rattle.std.proofs.Common.{rules, ◌≡◌, ◌∙◌, pos, ◌+ℤ◌, ◌*
 use Rattle.std.specs.Int.{w128}
 use Rattle.std.proofs.lemmas.Int.{to_z-of_z}
 use Rattle.linear_rows.specs.Numbers.{fits}
-use Rattle.linear_certs.specs.Building.{IsMixedList}
+use Rattle.linear_certs.specs.Code.Building.{IsMixedList}
 use Rattle.linear_certs.proofs.MixLaws.{mixed-next, mixed-failed}
 use Rattle.linear_certs.proofs.mix.mixed_list.Goals as goal
 

@@ -2,7 +2,7 @@ use Rattle.std.proofs.Common.{rules, ◌≡◌, ◌∙◌, ◌^◌, ◌+ℤ◌, 
 use Rattle.std.specs.Int.{w128}
 use Rattle.std.proofs.lemmas.Int.{to_z-of_z}
 use Rattle.linear_rows.specs.Numbers.{fits}
-use Rattle.linear_certs.specs.Building.{IsNumber, IsHalved}
+use Rattle.linear_certs.specs.Code.Building.{IsNumber, IsHalved}
 use Rattle.linear_certs.proofs.HalfLaws.{bits, whole-is, bits-small, upper-wide, large-wide}
 use Rattle.linear_certs.proofs.mix.mixed_number.Goals as goal
 

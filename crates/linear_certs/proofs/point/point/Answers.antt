@@ -5,7 +5,7 @@ use Rattle.std.proofs.lemmas.Int.{to_z-of_z}
 use Rattle.linear_rows.specs.Sums.{Holds}
 use Rattle.linear_certs.specs.Stages.{stage, least_atom}
 use Rattle.linear_certs.specs.Points.{IsPartialPoint}
-use Rattle.linear_certs.specs.Answers.{value_of}
+use Rattle.linear_certs.specs.Answers.{coordinate}
 use Rattle.linear_certs.proofs.AtomLaws.{least-below}
 use Rattle.linear_certs.proofs.CountLaws.{zeros-value, zeros-length}
 use Rattle.linear_certs.proofs.EliminationLaws.{good-forms}
@@ -22,7 +22,7 @@ loop-left-init c =
     let last : stage rows (length c.as_slice-stages.result.now) ≡ c.args.whole.now.last = ap (λ l. stage rows (length l)) c.as_slice-stages.ensures ∙ c.requires.last in
     let count : length c.in-Ok.nums.items ≡ c.atom_count.result = ap length items ∙ zeros-length c.atom_count.result in record {
       within = omega arith;
-      part = partial-first rows (length c.as_slice-stages.result.now) c.args.whole.now.last (value_of c.in-Ok.nums.items) last c.requires.none (λ a. ap (λ l. value_of l a) items ∙ zeros-value c.atom_count.result a);
+      part = partial-first rows (length c.as_slice-stages.result.now) c.args.whole.now.last (coordinate c.in-Ok.nums.items) last c.requires.none (λ a. ap (λ l. coordinate l a) items ∙ zeros-value c.atom_count.result a);
       count = subst (λ n. All (λ row. All (λ part. part.0 < n) row.parts) rows) (sym count) c.atom_count.ensures;
     }
 
@@ -44,7 +44,7 @@ pub give_value-requires-clause-still_zero : goal.give_value-requires-clause-stil
 give_value-requires-clause-still_zero c =
     let rows = c.args.rows.now in
     let built = c.index-stages-left.result in
-    let point = value_of c.loop-left.numbers.nums.items in
+    let point = coordinate c.loop-left.numbers.nums.items in
     let at = stage-left rows c.args.whole.now c.as_slice-stages.result.now c.loop-left.left built c.requires c.as_slice-stages.ensures c.loop-left-test.true c.loop-left.invariant.within c.index-stages-left.is in
     still-zero rows (c.loop-left.left - 1) built point c.loop-left.numbers.den at (part-left rows c.loop-left.left point c.loop-left.numbers.den c.loop-left-test.true c.loop-left.invariant.part)
 
@@ -57,7 +57,7 @@ returns-in-None c =
       none-false rows c.args.whole.now c.requires,
       far-nums rows (c.loop-left.left - 1) built nums c.loop-left.numbers.den at
           (least-below rows (c.loop-left.left - 1) built.atom (length nums) c.loop-left.invariant.count (ap least_atom at.is ∙ at.least))
-          (part-left rows c.loop-left.left (value_of nums) c.loop-left.numbers.den c.loop-left-test.true c.loop-left.invariant.part) (c.in-None.ensures.past refl),
+          (part-left rows c.loop-left.left (coordinate nums) c.loop-left.numbers.den c.loop-left-test.true c.loop-left.invariant.part) (c.in-None.ensures.past refl),
     )
 
 pub loop-left-preserved : goal.loop-left-preserved
@@ -68,15 +68,15 @@ loop-left-preserved c =
     let at = stage-left rows c.args.whole.now c.as_slice-stages.result.now c.loop-left.left built c.requires c.as_slice-stages.ensures c.loop-left-test.true c.loop-left.invariant.within c.index-stages-left.is in
     let within = c.loop-left.invariant.within in record {
       within = omega arith;
-      part = partial-next rows (c.loop-left.left - 1) built (value_of nums) c.loop-left.numbers.den (value_of c.in-Some.next.nums.items) c.in-Some.next.den at
-          (part-left rows c.loop-left.left (value_of nums) c.loop-left.numbers.den c.loop-left-test.true c.loop-left.invariant.part) c.in-Some.ensures.value;
+      part = partial-next rows (c.loop-left.left - 1) built (coordinate nums) c.loop-left.numbers.den (coordinate c.in-Some.next.nums.items) c.in-Some.next.den at
+          (part-left rows c.loop-left.left (coordinate nums) c.loop-left.numbers.den c.loop-left-test.true c.loop-left.invariant.part) c.in-Some.ensures.value;
       count = subst (λ n. All (λ row. All (λ part. part.0 < n) row.parts) rows) (sym c.in-Some.ensures.count) c.loop-left.invariant.count;
     }
 
 pub returns : goal.returns
 returns c =
     let rows = c.args.rows.now in
-    let point = value_of c.loop-left.numbers.nums.items in
+    let point = coordinate c.loop-left.numbers.nums.items in
     let fits : FitsSigned w128 c.loop-left.numbers.den = search rules in
     let over_is = to_z-of_z w128 c.loop-left.numbers.den fits in
     let none_left : c.loop-left.left ≡ 0 = omega (arith, c.loop-left-test.false) in

@@ -1,7 +1,7 @@
 use Rattle.std.proofs.Common.{sym, subst, [], ◌∷◌}
 use Rattle.std.specs.List.{All}
 use Rattle.std.proofs.lemmas.List.Elements.{All-cons, All-nil}
-use Rattle.linear_certs.specs.Building.{IsGood}
+use Rattle.linear_certs.specs.Code.Building.{IsGood}
 use Rattle.linear_certs.proofs.StageLaws.{kept_once-All, on-ok}
 use Rattle.linear_certs.proofs.stage.add_pair.Goals as goal
 

@@ -1,7 +1,7 @@
 use Rattle.std.proofs.Common.{◌≡◌, take}
 use Rattle.std.specs.List.{All}
 use Rattle.linear_certs.specs.Stages.{kept_once, pairs_of}
-use Rattle.linear_certs.specs.Building.{IsGood}
+use Rattle.linear_certs.specs.Code.Building.{IsGood}
 use Rattle.linear_certs.proofs.stage.add_pairs.Given as goal
 
 abbrev pub invariant-loop-lower : goal.invariant-loop-lower

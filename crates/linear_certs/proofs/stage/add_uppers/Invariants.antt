@@ -2,7 +2,7 @@ use Rattle.std.proofs.Common.{◌≡◌, take, []}
 use Rattle.std.specs.Prelude.{filter}
 use Rattle.std.specs.List.{All, flat_map}
 use Rattle.linear_certs.specs.Stages.{kept_once, pairs_of, is_upper, lacks}
-use Rattle.linear_certs.specs.Building.{IsGood}
+use Rattle.linear_certs.specs.Code.Building.{IsGood}
 use Rattle.linear_certs.proofs.stage.add_uppers.Given as goal
 
 abbrev pub invariant-loop-upper : goal.invariant-loop-upper

@@ -3,7 +3,7 @@ use Rattle.std.specs.Prelude.{filter}
 use Rattle.std.specs.List.{All}
 use Rattle.std.proofs.lemmas.List.Elements.{All-nil, All-filter}
 use Rattle.linear_certs.specs.Stages.{lacks}
-use Rattle.linear_certs.specs.Building.{IsGood}
+use Rattle.linear_certs.specs.Code.Building.{IsGood}
 use Rattle.linear_certs.proofs.StageLaws.{kept_once-All}
 use Rattle.linear_certs.proofs.stage.next_stage.Goals as goal
 

@@ -1,5 +1,5 @@
 use Rattle.std.proofs.Common.{◌≡◌, map, take}
-use Rattle.merge_core.specs.MergedProgram.{merged_statement}
+use Rattle.merge_core.specs.Code.MergedProgram.{merged_statement}
 use Rattle.merge_core.proofs.merged_statement.merged_body.Given as goal
 
 abbrev pub invariant-loop-statement : goal.invariant-loop-statement

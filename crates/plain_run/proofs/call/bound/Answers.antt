@@ -2,7 +2,7 @@ use Rattle.std.proofs.Common.{◌≡◌, ◌-◌, List, drop, map, arith, sym, a
 use Rattle.c_lang.specs.Names.{Bytes}
 use Rattle.plain_run.specs.Steps.{bound}
 use Rattle.c_lang.specs.declared.stmt.Kind.{Kind}
-use Rattle.plain_run.specs.Names.{seen_locals}
+use Rattle.plain_run.specs.Code.Names.{seen_locals}
 use Rattle.plain_run.specs.Values.{seen_value}
 use Rattle.plain_run.proofs.CallLaws.{bound-more}
 use Rattle.plain_run.proofs.TableLaws.{drop-front}

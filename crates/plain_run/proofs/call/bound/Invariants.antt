@@ -1,7 +1,7 @@
 use Rattle.std.proofs.Common.{◌≡◌, ◌≤◌, drop, length, map}
 use Rattle.c_lang.specs.Names.{Bytes}
 use Rattle.plain_run.specs.Steps.{bound}
-use Rattle.plain_run.specs.Names.{seen_locals}
+use Rattle.plain_run.specs.Code.Names.{seen_locals}
 use Rattle.plain_run.specs.Values.{seen_value}
 use Rattle.plain_run.proofs.call.bound.Given as goal
 

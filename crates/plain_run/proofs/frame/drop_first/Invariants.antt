@@ -1,5 +1,5 @@
 use Rattle.std.proofs.Common.{◌≡◌, ◌≤◌, vec_len, vec_capacity}
-use Rattle.plain_run.specs.Frames.{seen_items, behind_first}
+use Rattle.plain_run.specs.Code.Frames.{seen_items, behind_first}
 use Rattle.plain_run.proofs.frame.drop_first.Given as goal
 
 abbrev pub invariant-loop-last : goal.invariant-loop-last

@@ -1,5 +1,5 @@
 use Rattle.std.proofs.Common.{◌≡◌}
-use Rattle.plain_run.specs.Frames.{seen_items}
+use Rattle.plain_run.specs.Code.Frames.{seen_items}
 use Rattle.plain_run.proofs.frame.first.Given as goal
 
 abbrev pub invariant-loop-last : goal.invariant-loop-last

@@ -1,6 +1,6 @@
 use Rattle.std.proofs.Common.{◌≡◌}
 use Rattle.plain_run.specs.Steps.{after_mark}
-use Rattle.plain_run.specs.Frames.{seen_items}
+use Rattle.plain_run.specs.Code.Frames.{seen_items}
 use Rattle.plain_run.proofs.frame.leave_loop.Given as goal
 
 abbrev pub invariant-loop-last : goal.invariant-loop-last

@@ -1,7 +1,7 @@
 use Rattle.std.proofs.Common.{◌≡◌, ◌≤◌, drop, length}
 use Rattle.c_lang.specs.Names.{Bytes}
 use Rattle.c_lang.specs.Programs.{global_named, initial_row}
-use Rattle.plain_run.specs.Names.{seen_rows}
+use Rattle.plain_run.specs.Code.Names.{seen_rows}
 use Rattle.plain_run.proofs.initial.initial_rows.Given as goal
 
 abbrev pub invariant-loop-left : goal.invariant-loop-left

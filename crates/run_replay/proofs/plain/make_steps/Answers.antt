@@ -2,7 +2,7 @@ use Rattle.std.proofs.Common.{◌+◌, Vec, Global, ◌++◌, sym, ap, ◌∙◌
 use Rattle.c_lang.specs.declared.event.Event.{Event}
 use Rattle.plain_run.specs.Machines.{program_of}
 use Rattle.plain_run.specs.declared.step.RunError.TheVariants.{Deep}
-use Rattle.run_replay.specs.After.{IsAfter}
+use Rattle.run_replay.specs.Code.After.{IsAfter}
 use Rattle.run_replay.proofs.AfterLaws.{after_step, after_still, gets_deep, IsErrOf-other}
 use Rattle.run_replay.proofs.ReachedLaws.{IsStill, shown_of}
 use Rattle.run_replay.proofs.plain.make_steps.Goals as goal

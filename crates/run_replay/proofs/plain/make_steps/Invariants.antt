@@ -1,5 +1,5 @@
 use Rattle.plain_run.specs.Machines.{program_of}
-use Rattle.run_replay.specs.After.{IsAfter}
+use Rattle.run_replay.specs.Code.After.{IsAfter}
 use Rattle.run_replay.proofs.plain.make_steps.Given as goal
 
 abbrev pub invariant-loop : goal.invariant-loop

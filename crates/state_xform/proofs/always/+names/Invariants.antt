@@ -1,7 +1,7 @@
 use Rattle.std.proofs.Common.{map}
 use Rattle.c_lang.specs.Trees.{statement_of, statements}
-use Rattle.state_xform.specs.AllNames.{IsFound}
-use Rattle.state_xform.specs.Walk.{walk_all}
+use Rattle.state_xform.specs.Code.AllNames.{IsFound}
+use Rattle.state_xform.specs.Code.Walk.{walk_all}
 use Rattle.state_xform.proofs.AllLaws.{passed}
 use Rattle.state_xform.proofs.always.+names.Given as goal
 

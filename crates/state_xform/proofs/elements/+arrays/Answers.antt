@@ -2,7 +2,7 @@ use Rattle.std.proofs.Common.{map}
 use Rattle.std.proofs.lemmas.Result.{on_ok_weaker}
 use Rattle.c_lang.specs.Trees.{statement_of, statements}
 use Rattle.c_lang.proofs.TreeLemmas.{statement_of-If}
-use Rattle.state_xform.specs.NameSets.{has}
+use Rattle.state_xform.specs.Code.NameSets.{has}
 use Rattle.state_xform.specs.Elements.{sets_element_in}
 use Rattle.state_xform.proofs.AllLaws.{both_added}
 use Rattle.state_xform.proofs.elements.+arrays.Goals as goal

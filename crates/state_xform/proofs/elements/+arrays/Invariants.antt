@@ -1,7 +1,7 @@
 use Rattle.std.proofs.Common.{◌≡◌, ◌||◌, drop, map}
 use Rattle.c_lang.specs.Names.{Bytes}
 use Rattle.c_lang.specs.Trees.{statement_of, statements}
-use Rattle.state_xform.specs.NameSets.{has}
+use Rattle.state_xform.specs.Code.NameSets.{has}
 use Rattle.state_xform.specs.Elements as spec
 use Rattle.state_xform.proofs.elements.+arrays.Given as goal
 

@@ -1,5 +1,5 @@
 use Rattle.state_xform.specs.Transformers.{is_filled}
-use Rattle.state_xform.specs.NameSets.{has}
+use Rattle.state_xform.specs.Code.NameSets.{has}
 use Rattle.state_xform.proofs.AllLaws.{elements-more}
 use Rattle.state_xform.proofs.elements.element_names.Goals as goal
 

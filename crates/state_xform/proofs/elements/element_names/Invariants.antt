@@ -1,7 +1,7 @@
 use Rattle.std.proofs.Common.{◌≡◌, ◌||◌, drop}
 use Rattle.c_lang.specs.Names.{Bytes}
 use Rattle.state_xform.specs.Transformers.{is_filled}
-use Rattle.state_xform.specs.NameSets.{has}
+use Rattle.state_xform.specs.Code.NameSets.{has}
 use Rattle.state_xform.proofs.elements.element_names.Given as goal
 
 abbrev pub invariant-loop-func : goal.invariant-loop-func

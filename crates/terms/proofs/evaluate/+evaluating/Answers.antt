@@ -1,7 +1,7 @@
 use Rattle.std.proofs.Common.{rules, FitsSigned, ◌≡◌, Some, ◌∙◌, ap}
 use Rattle.std.specs.Int.{w128}
 use Rattle.std.proofs.lemmas.Int.{to_z-of_z}
-use Rattle.terms.specs.Operations.{written}
+use Rattle.terms.specs.Code.Operations.{written}
 use Rattle.terms.proofs.ValueLaws.{stored_value}
 use Rattle.terms.proofs.evaluate.+evaluating.Goals as goal
 

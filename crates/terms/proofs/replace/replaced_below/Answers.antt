@@ -2,7 +2,7 @@ use Rattle.std.proofs.Common.{◌≡◌, ap, sym, ◌∙◌}
 use Rattle.std.proofs.lemmas.Result.{IfOk-weaker}
 use Rattle.terms.specs.Trees.{form_tree}
 use Rattle.terms.specs.Replacing.{replaced_form, below}
-use Rattle.terms.specs.Replacement.{change_of}
+use Rattle.terms.specs.Code.Replacement.{change_of}
 use Rattle.terms.proofs.BelowLaws.{below_replaced, below_another}
 use Rattle.terms.proofs.replace.replaced_below.Goals as goal
 

@@ -1,5 +1,5 @@
 use Rattle.std.proofs.Common.{◌≡◌, ◌++◌, map, drop}
-use Rattle.version_names.specs.Declarations as spec
+use Rattle.version_names.specs.Code.Declarations as spec
 use Rattle.version_names.proofs.declared.declared_globals.Given as goal
 
 abbrev pub invariant-loop-global : goal.invariant-loop-global

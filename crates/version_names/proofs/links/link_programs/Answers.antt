@@ -1,7 +1,7 @@
 use Rattle.std.proofs.Common.{◌∙◌, ap, ap₂, map}
-use Rattle.version_names.specs.Declarations.{declared_global, declared_func}
+use Rattle.version_names.specs.Code.Declarations.{declared_global, declared_func}
 use Rattle.version_names.specs.Parts.{changed_by}
-use Rattle.version_names.specs.Statuses.{statuses_of}
+use Rattle.version_names.specs.Code.Statuses.{statuses_of}
 use Rattle.version_names.proofs.StatusLaws.{is-linked}
 use Rattle.version_names.proofs.links.link_programs.Goals as goal
 

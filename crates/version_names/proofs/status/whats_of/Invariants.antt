@@ -1,5 +1,5 @@
 use Rattle.std.proofs.Common.{◌≡◌, [], drop}
-use Rattle.version_names.specs.Statuses as spec
+use Rattle.version_names.specs.Code.Statuses as spec
 use Rattle.version_names.proofs.status.whats_of.Given as goal
 
 abbrev pub invariant-loop-old : goal.invariant-loop-old

@@ -1,6 +1,6 @@
 use Rattle.std.proofs.Common.{◌≡◌, length}
 use Rattle.std.specs.List.{list_all}
-use Rattle.c_lines.specs.Readers.{is_in}
+use Rattle.c_lines.specs.Code.Readers.{is_in}
 use Rattle.c_lines.proofs.text.Class.has_all.Given as goal
 
 abbrev pub invariant-loop-bytes : goal.invariant-loop-bytes

@@ -1,6 +1,6 @@
 use Rattle.std.proofs.Common.{◌≡◌, ◌+◌, ◌-◌, ◌≤◌, length, drop}
 use Rattle.std.specs.List.{prefix_len}
-use Rattle.c_lines.specs.Readers.{is_in}
+use Rattle.c_lines.specs.Code.Readers.{is_in}
 use Rattle.c_lines.proofs.text.Class.run.Given as goal
 
 abbrev pub invariant-loop-end : goal.invariant-loop-end

@@ -1,6 +1,6 @@
 use Rattle.std.proofs.Common.{◌≡◌, drop, map}
-use Rattle.plain_run.specs.Calls.{after_values, values_in}
-use Rattle.plain_run.specs.Scopes.{look_of}
+use Rattle.plain_run.specs.Code.Calls.{after_values, values_in}
+use Rattle.plain_run.specs.Code.Scopes.{look_of}
 use Rattle.plain_run.specs.Values.{seen_value}
 use Rattle.plain_run.proofs.eval.Scope.arguments.Given as goal
 

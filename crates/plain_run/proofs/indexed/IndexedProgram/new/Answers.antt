@@ -1,7 +1,7 @@
 use Rattle.std.proofs.Common.{drop, arith, refl, sym, subst}
 use Rattle.std.specs.Option.{option_map}
 use Rattle.c_lang.specs.Programs.{func_named}
-use Rattle.plain_run.specs.Tables.{HasFuncs}
+use Rattle.plain_run.specs.Code.Tables.{HasFuncs}
 use Rattle.plain_run.proofs.TableLaws.{drop-front, IsFilled-more}
 use Rattle.plain_run.proofs.indexed.IndexedProgram.new.Goals as goal
 

@@ -1,5 +1,5 @@
 use Rattle.std.proofs.Common.{◌≤◌, drop, length}
-use Rattle.plain_run.specs.Tables.{HasFuncs}
+use Rattle.plain_run.specs.Code.Tables.{HasFuncs}
 use Rattle.plain_run.proofs.indexed.IndexedProgram.new.Given as goal
 
 abbrev pub invariant-loop-left : goal.invariant-loop-left

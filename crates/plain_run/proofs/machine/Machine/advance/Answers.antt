@@ -1,9 +1,9 @@
 use Rattle.std.proofs.Common.{ap, ◌∙◌}
 use Rattle.c_lang.specs.declared.stmt.Stmt.{out-Stmt}
-use Rattle.plain_run.specs.Actions.{asked}
-use Rattle.plain_run.specs.Frames.{dest_of, seen_items, seen_frames}
+use Rattle.plain_run.specs.Code.Actions.{asked}
+use Rattle.plain_run.specs.Code.Frames.{dest_of, seen_items, seen_frames}
 use Rattle.plain_run.specs.Machines.{config_of, program_of, store_of}
-use Rattle.plain_run.specs.SeenActions.{seen_action}
+use Rattle.plain_run.specs.Code.SeenActions.{seen_action}
 use Rattle.plain_run.proofs.StepLaws.{makes_statement}
 use Rattle.plain_run.proofs.machine.Machine.advance.Goals as goal
 

@@ -1,6 +1,6 @@
 use Rattle.std.proofs.Common.{Ok, Err, map, subst, sym, ap, ◌∙◌}
 use Rattle.c_lang.specs.Values.{Code}
-use Rattle.plain_run.specs.Calls.{seen_arguments, values_in}
+use Rattle.plain_run.specs.Code.Calls.{seen_arguments, values_in}
 use Rattle.plain_run.specs.Machines.{config_of, entering}
 use Rattle.plain_run.specs.Runs.{Makes_or_fails}
 use Rattle.plain_run.specs.Values.{seen_value}

@@ -1,6 +1,6 @@
 use Rattle.std.proofs.Common.{◌≡◌, Ok, subst, FitsSigned, to_z, of_z, w32, rules}
 use Rattle.std.proofs.lemmas.Int.{to_z-of_z}
-use Rattle.plain_run.specs.Actions as spec
+use Rattle.plain_run.specs.Code.Actions as spec
 use Rattle.plain_run.specs.Machines.{HasDone}
 use Rattle.plain_run.proofs.machine.Machine.perform.Goals as goal
 

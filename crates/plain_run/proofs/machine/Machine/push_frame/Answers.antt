@@ -4,7 +4,7 @@ use Rattle.plain_run.specs.PlainRun.{plain_access}
 use Rattle.c_lang.specs.Programs.{no_func}
 use Rattle.plain_run.specs.Steps.{frame_of}
 use Rattle.c_lang.specs.declared.program.Func.{Func}
-use Rattle.plain_run.specs.Frames.{frame_with, dest_of, seen_frame}
+use Rattle.plain_run.specs.Code.Frames.{frame_with, dest_of, seen_frame}
 use Rattle.plain_run.specs.Machines.{program_of, store_of}
 use Rattle.plain_run.specs.Values.{seen_value}
 use Rattle.plain_run.proofs.MachineLaws.{config-push}

@@ -2,7 +2,7 @@ use Rattle.std.proofs.Common.{◌∙◌, ap, rules}
 use Rattle.std.specs.List.{list_any}
 use Rattle.std.specs.Str.{bytes_eq}
 use Rattle.std.proofs.lemmas.Fn.{filter_same}
-use Rattle.state_xform.specs.NameSets.{has}
+use Rattle.state_xform.specs.Code.NameSets.{has}
 use Rattle.state_xform.proofs.NameLaws.{names_of, seen-filter}
 use Rattle.state_xform.proofs.names.NameSet.common.Goals as goal
 

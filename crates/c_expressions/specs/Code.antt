@@ -1,0 +1,4 @@
+-- Definitions that mirror the code.
+pub mod ExpressionReading
+pub mod ParseSteps
+pub mod Seen

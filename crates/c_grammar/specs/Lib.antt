@@ -1,0 +1,15 @@
+pub mod Bytes
+pub mod Expressions
+pub mod Grammar
+pub mod Lexed
+pub mod Nesting
+pub mod Parsed
+pub mod Pieces
+pub mod Punctuators
+pub mod Scopes
+pub mod Separated
+pub mod Statements
+pub mod Tokens
+pub mod Units
+pub mod Words
+pub mod Written

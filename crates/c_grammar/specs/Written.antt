@@ -1,0 +1,30 @@
+-- Programs that have a text.
+use Rattle.std.specs.Prelude.{ℕ, List, All}
+use Rattle.std.specs.List.{Contains}
+use Rattle.c_lang.specs.Names.{Bytes}
+use Rattle.c_lang.specs.declared.unit.Unit.{Unit}
+use Rattle.c_lang.specs.declared.program.Program.{Program}
+use Rattle.c_grammar.specs.declared.token.Token.{Token}
+use Rattle.c_grammar.specs.Lexed.{Lexed}
+use Rattle.c_grammar.specs.Grammar.{Gram}
+use Rattle.c_grammar.specs.Parsed.{IsParsed}
+
+-- the text is this program, within the height and the open brackets
+pub record Parses (u : Unit) (deep : ℕ) (bytes : Bytes) (p : Program) : Type 0 where
+  pub tokens : List Token
+  pub lexed : Lexed u bytes tokens
+  pub parsed : IsParsed u deep tokens p
+
+-- some text of this unit has the token
+pub record IsGiven (u : Unit) (t : Token) : Type 0 where
+  pub bytes : Bytes
+  pub tokens : List Token
+  pub lexed : Lexed u bytes tokens
+  pub there : Contains tokens t
+
+-- the program is written in this unit: it has tokens, each of which a text of the unit can have
+pub record IsWritten (u : Unit) (p : Program) : Type 0 where
+  pub deep : ℕ
+  pub tokens : List Token
+  pub given : All (IsGiven u) tokens
+  pub gram : Gram u deep tokens p

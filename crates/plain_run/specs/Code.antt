@@ -1,0 +1,9 @@
+-- Definitions that mirror the code.
+pub mod Actions
+pub mod Calls
+pub mod Frames
+pub mod Names
+pub mod Scopes
+pub mod SeenActions
+pub mod Stored
+pub mod Tables

@@ -1,0 +1,11 @@
+-- What a table of functions stands for.
+use Rattle.std.specs.Prelude.{◌≡◌, List}
+use Rattle.std.specs.Borrow.{Bor}
+use Rattle.std.specs.Option.{option_map}
+use Rattle.c_lang.specs.Names.{Bytes}
+use Rattle.c_lang.specs.Programs.{func_named}
+use Rattle.c_lang.specs.declared.program.Func.{Func}
+use Rattle.plain_run.specs.Code.Names.{found}
+
+abbrev pub HasFuncs : List (Bor Bytes × Bor Func) → List Func → Type 0
+HasFuncs entries funcs = (x : Bytes) → option_map (λ f. f.now) (found entries x) ≡ func_named funcs x

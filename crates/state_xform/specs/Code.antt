@@ -1,0 +1,4 @@
+-- Definitions that mirror the code.
+pub mod AllNames
+pub mod NameSets
+pub mod Walk

@@ -1,0 +1,3 @@
+-- Definitions that mirror the code.
+pub mod Operations
+pub mod Replacement

@@ -1,0 +1,4 @@
+-- Definitions that mirror the code.
+pub mod Declarations
+pub mod Statuses
+pub mod Tables
