@@ -5,4 +5,3 @@
 pub mod expressions;
 pub mod front;
 pub mod parse_error;
-pub mod words;

@@ -2,9 +2,8 @@
 use Rattle.std.specs.Prelude.{◌≡◌, ℕ, ◌≤◌, List, ◌++◌}
 use Rattle.c_lang.specs.declared.unit.Unit.{Unit}
 use Rattle.c_lang.specs.declared.program.Program.{Program}
-use Rattle.c_parser.specs.declared.parts.Parts.{Parts}
 use Rattle.c_grammar.specs.declared.token.Token.{Token}
-use Rattle.c_grammar.specs.Units.{External, AreExternals, add_all, no_parts, unit_tokens, unit_height}
+use Rattle.c_grammar.specs.Units.{Parts, External, AreExternals, add_all, no_parts, unit_tokens, unit_height}
 
 abbrev pub program_of : Parts → Program
 program_of a = record { globals = a.globals; protos = a.protos; funcs = a.funcs; early = a.early_globals ++ (a.early_protos ++ a.early_funcs) }

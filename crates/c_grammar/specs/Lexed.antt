@@ -1,8 +1,9 @@
 -- The tokens of a text, and why a text is refused.
-use Rattle.std.specs.Prelude.{⊤, ◌≡◌, ℕ, ◌+◌, ◌-◌, ◌<◌, ◌≤◌, pos, true, ◌&&◌, ◌||◌, if◌then◌else◌, ◌==◌, List, [], ◌∷◌, ◌++◌, length, slice_range, Some, None}
+use Rattle.std.specs.Prelude.{⊤, ◌≡◌, ℕ, ◌+◌, ◌-◌, ◌<◌, ◌≤◌, pos, true, ◌&&◌, ◌||◌, if◌then◌else◌, ◌==◌, List, [], ◌∷◌, ◌++◌, length, slice_range, Some}
 use Rattle.c_lang.specs.Names.{Bytes}
 use Rattle.c_lang.specs.Limits.{size_limit}
 use Rattle.c_lang.specs.Units.{at}
+use Rattle.c_lang.specs.Refusals.{refused_at, past_limit}
 use Rattle.c_lang.specs.declared.unit.Unit.{Unit}
 use Rattle.c_lang.specs.declared.unit.Pos.{Pos}
 use Rattle.c_lang.specs.declared.refusal.Fail.{Fail}
@@ -20,7 +21,7 @@ use Rattle.c_grammar.specs.declared.piece.Piece.{Piece}
 use Rattle.c_grammar.specs.declared.piece.Piece.TheVariants as piece
 use Rattle.c_grammar.specs.declared.piece.Place.{Place}
 
--- the place behind a byte
+-- the place place_behind a byte
 abbrev pub after_byte : Place → ℕ → Place
 after_byte p byte = record {
   offset = p.offset + 1;
@@ -39,9 +40,9 @@ turned p piece.Space = p
 turned p (piece.Token what) = p
 turned p (piece.Fault fault) = p
 
--- the place behind a piece with this text
-abbrev pub behind : Place → Piece → Bytes → Place
-behind p x text = after_bytes (turned p x) text
+-- the place place_behind a piece with this text
+abbrev pub place_behind : Place → Piece → Bytes → Place
+place_behind p x text = after_bytes (turned p x) text
 
 -- a token of so many bytes
 abbrev pub token : Place → Word → ℕ → Token
@@ -59,7 +60,7 @@ pub data Cuts (unit : Unit) : Place → Bytes → List Token → Type 0 where
   ends : (p : Place) → Cuts unit p [] []
   goes : (p : Place) (text rest : Bytes) (x : Piece) (tokens : List Token)
       → IsPiece unit p.fresh rest text x
-      → Cuts unit (behind p x text) rest tokens
+      → Cuts unit (place_behind p x text) rest tokens
       → Cuts unit p (text ++ rest) (tokens_of p x text ++ tokens)
 
 abbrev pub first_place : Unit → Place
@@ -76,20 +77,17 @@ pub data Stops (unit : Unit) : Place → Bytes → Fault → Pos → Type 0 wher
       → Stops unit p bytes fault p.pos
   later : (p : Place) (text rest : Bytes) (x : Piece) (fault : Fault) (position : Pos)
       → IsPiece unit p.fresh rest text x
-      → Stops unit (behind p x text) rest fault position
+      → Stops unit (place_behind p x text) rest fault position
       → Stops unit p (text ++ rest) fault position
-
-abbrev pub refusal : ℕ → Pos → Refusal
-refusal number p = record { number = number; pos = p; name = None }
 
 -- the text is refused for this reason: it is too long, or else it has this fault first
 pub data Refused (unit : Unit) (bytes : Bytes) : Refusal → Type 0 where
   too_long : size_limit unit < length bytes
-      → Refused unit bytes (refusal 27 (at unit 1))
+      → Refused unit bytes (refused_at past_limit (at unit 1))
   has_fault : (fault : Fault) (p : Pos)
       → length bytes ≤ size_limit unit
       → Stops unit (first_place unit) bytes fault p
-      → Refused unit bytes (refusal (fault_number fault) p)
+      → Refused unit bytes (refused_at (fault_number fault) p)
 
 abbrev pub IsRefusedAs : Fail → Unit → Bytes → Type 0
 IsRefusedAs fail.NoMemory unit bytes = ⊤
@@ -102,7 +100,7 @@ Says text (w.Ident name) = name ≡ text
 Says text (w.Number number) = (n : ℕ) × IsNumber text n × (number ≡ pos n)
 Says text (w.Punct k) = punctuator_number text ≡ Some k
 
--- The tokens stand one behind the other from this offset on, and each is what its slice says.
+-- The tokens stand one place_behind the other from this offset on, and each is what its slice says.
 abbrev pub AreSpans : Bytes → ℕ → List Token → Type 0
 AreSpans bytes from [] = from ≤ length bytes
 AreSpans bytes from (t ∷ tokens) = (from ≤ t.start) × (t.start < t.end) × Says (slice_range bytes t.start t.end) t.what × AreSpans bytes t.end tokens

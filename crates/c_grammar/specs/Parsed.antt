@@ -8,7 +8,7 @@ use Rattle.c_lang.specs.declared.refusal.Fail.{Fail}
 use Rattle.c_lang.specs.declared.refusal.Fail.TheVariants as fail
 use Rattle.c_lang.specs.declared.program.Program.{Program}
 use Rattle.c_grammar.specs.declared.token.Token.{Token}
-use Rattle.c_grammar.specs.Scopes.{refusal}
+use Rattle.c_lang.specs.Refusals.{refused_at, syntax_error, too_nested}
 use Rattle.c_grammar.specs.Nesting.{too_deep, IsNested}
 use Rattle.c_grammar.specs.Grammar.{Gram}
 
@@ -24,12 +24,12 @@ IsPlace u (t ∷ ts) p = (x : Token) × Contains (t ∷ ts) x × (x.pos ≡ p)
 
 -- no program of this height has the tokens
 pub record IsSyntaxError (u : Unit) (deep : ℕ) (ts : List Token) (r : Refusal) : Type 0 where
-  pub number : r ≡ refusal 3 r.pos
+  pub number : r ≡ refused_at syntax_error r.pos
   pub place : IsPlace u ts r.pos
   pub no_program : (p : Program) → Gram u deep ts p → ⊥
 
 abbrev pub refused_by : Unit → ℕ → List Token → Refusal → Option Pos → Type 0
-refused_by u deep ts r (Some p) = r ≡ refusal 5 p
+refused_by u deep ts r (Some p) = r ≡ refused_at too_nested p
 refused_by u deep ts r None = IsSyntaxError u deep ts r
 
 -- 5 at the first token at which too many brackets are open, else 3

@@ -3,6 +3,7 @@
 use Rattle.std.specs.Prelude.{◌≡◌, ◌≢◌, ℕ, ◌+◌, ◌-◌, ◌*◌, ◌<◌, ◌≤◌, pos, Bool, true, false, ◌&&◌, ◌||◌, ◌==◌, [], ◌∷◌, ◌++◌, length, slice_index, Some, None, codes}
 use Rattle.std.specs.List.{list_all}
 use Rattle.c_lang.specs.Names.{Bytes, is_digit, is_word}
+use Rattle.c_lang.specs.Refusals as refusal
 use Rattle.c_lang.specs.Units.{word, FitsNumber, IsPosition}
 use Rattle.c_lang.specs.declared.unit.Unit.{Unit}
 use Rattle.c_lang.specs.declared.unit.Unit.TheVariants.{Merge}
@@ -147,8 +148,8 @@ pub data IsFault (unit : Unit) (fresh : Bool) : Bytes → Fault → Type 0 where
 
 -- the number of the refusal
 abbrev pub fault_number : Fault → ℕ
-fault_number BadByte = 1
-fault_number BadNumber = 2
-fault_number Directive = 4
-fault_number Reserved = 6
-fault_number OpenComment = 28
+fault_number BadByte = refusal.bad_byte
+fault_number BadNumber = refusal.bad_number
+fault_number Directive = refusal.bad_directive
+fault_number Reserved = refusal.reserved_word
+fault_number OpenComment = refusal.open_comment

@@ -4,6 +4,8 @@ use Rattle.std.specs.Prelude.{ℕ, ◌+◌, nat_lt, if◌then◌else◌, Bool, t
 use Rattle.std.specs.List.{list_any}
 use Rattle.std.specs.Fmt.{decimal}
 use Rattle.c_lang.specs.Names.{Bytes}
+use Rattle.c_lang.specs.Limits.{parameter_limit}
+use Rattle.c_lang.specs.Refusals.{refused_at, past_limit}
 use Rattle.c_lang.specs.declared.unit.Unit.{Unit}
 use Rattle.c_lang.specs.declared.unit.Unit.TheVariants as unit
 use Rattle.c_lang.specs.declared.unit.Pos.{Pos}
@@ -30,12 +32,9 @@ one_more scope = record { count = scope.count + 1; declared = scope.declared; ea
 unfoldable pub temporary : ℕ → Bytes
 temporary n = codes "dsu_t" ++ decimal n
 
-abbrev pub refusal : ℕ → Pos → Refusal
-refusal number p = record { number = number; pos = p; name = None }
-
--- a pointer of this many parameters, or 33 where it has more than 32
+-- a pointer of this many parameters, or of one more than the limit where it has more
 abbrev pub arity_refusals : Pos → ℕ → List Refusal
-arity_refusals p arity = if nat_lt 32 arity then refusal 27 p ∷ [] else []
+arity_refusals p arity = if nat_lt parameter_limit arity then refused_at past_limit p ∷ [] else []
 
 abbrev pub refuse_arity : Scope → Pos → ℕ → Scope
 refuse_arity scope p arity = record { count = scope.count; declared = scope.declared; early = scope.early ++ arity_refusals p arity }

@@ -1,8 +1,11 @@
 -- Tokens at their places, and the numbers of the punctuators and keywords that the grammar has.
-use Rattle.std.specs.Prelude.{ℕ}
+use Rattle.std.specs.Prelude.{◌≡◌, ℕ, Some, codes}
 use Rattle.c_lang.specs.declared.unit.Pos.{Pos}
 use Rattle.c_lang.specs.declared.expr.Op.{Op}
 use Rattle.c_lang.specs.declared.expr.Op.TheVariants as op
+use Rattle.c_lang.specs.Operators.{operator_text}
+use Rattle.c_grammar.specs.Words.{keyword_number}
+use Rattle.c_grammar.specs.Punctuators.{punctuator_number}
 use Rattle.c_grammar.specs.declared.token.Token.{Token}
 use Rattle.c_grammar.specs.declared.token.Word.{Word}
 use Rattle.c_grammar.specs.declared.token.Word.TheVariants as w
@@ -117,3 +120,36 @@ void_key = 48
 
 abbrev pub while_key : ℕ
 while_key = 50
+
+-- ---- the texts of these numbers
+
+pub record ArePunctuators : Type 0 where
+  pub round_open : punctuator_number (codes "(") ≡ Some round_open
+  pub round_close : punctuator_number (codes ")") ≡ Some round_close
+  pub brace_open : punctuator_number (codes "{") ≡ Some brace_open
+  pub brace_close : punctuator_number (codes "}") ≡ Some brace_close
+  pub square_open : punctuator_number (codes "[") ≡ Some square_open
+  pub square_close : punctuator_number (codes "]") ≡ Some square_close
+  pub semicolon : punctuator_number (codes ";") ≡ Some semicolon
+  pub comma : punctuator_number (codes ",") ≡ Some comma
+  pub equals : punctuator_number (codes "=") ≡ Some equals
+  pub minus : punctuator_number (codes "-") ≡ Some minus
+  pub star : punctuator_number (codes "*") ≡ Some star
+  pub bang : punctuator_number (codes "!") ≡ Some bang
+  pub operators : (o : Op) → punctuator_number (operator_text o) ≡ Some (operator_number o)
+
+pub record AreKeywords : Type 0 where
+  pub assert_key : keyword_number (codes "assert") ≡ Some assert_key
+  pub break_key : keyword_number (codes "break") ≡ Some break_key
+  pub client_in_key : keyword_number (codes "client_in") ≡ Some client_in_key
+  pub client_out_key : keyword_number (codes "client_out") ≡ Some client_out_key
+  pub dsu_choice_key : keyword_number (codes "dsu_choice") ≡ Some dsu_choice_key
+  pub dsu_force_key : keyword_number (codes "dsu_force") ≡ Some dsu_force_key
+  pub dsu_update_key : keyword_number (codes "dsu_update") ≡ Some dsu_update_key
+  pub dsu_updated_key : keyword_number (codes "dsu_updated") ≡ Some dsu_updated_key
+  pub else_key : keyword_number (codes "else") ≡ Some else_key
+  pub if_key : keyword_number (codes "if") ≡ Some if_key
+  pub int_key : keyword_number (codes "int") ≡ Some int_key
+  pub return_key : keyword_number (codes "return") ≡ Some return_key
+  pub void_key : keyword_number (codes "void") ≡ Some void_key
+  pub while_key : keyword_number (codes "while") ≡ Some while_key

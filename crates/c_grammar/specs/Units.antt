@@ -10,12 +10,13 @@ use Rattle.c_lang.specs.declared.program.Shape.TheVariants as shape
 use Rattle.c_lang.specs.declared.program.GlobalVar.{GlobalVar}
 use Rattle.c_lang.specs.declared.program.Proto.{Proto}
 use Rattle.c_lang.specs.declared.program.Func.{Func}
-use Rattle.c_parser.specs.declared.parts.Parts.{Parts}
 use Rattle.c_grammar.specs.declared.token.Token.{Token}
 use Rattle.c_grammar.specs.declared.token.Word.TheVariants as w
 use Rattle.c_grammar.specs.Tokens.{At, token, mark, keyword, round_open, round_close, brace_open, brace_close, square_open, square_close, semicolon, equals, minus, int_key, void_key}
 use Rattle.c_grammar.specs.Separated.{Separated, parts_of, separated_tokens, Each}
-use Rattle.c_grammar.specs.Scopes.{Scope, declare, refusal, arity_refusals, is_merge}
+use Rattle.c_lang.specs.Limits.{cell_limit, element_limit}
+use Rattle.c_lang.specs.Refusals.{refused_at, wrong_kind, past_limit}
+use Rattle.c_grammar.specs.Scopes.{Scope, declare, arity_refusals}
 use Rattle.c_grammar.specs.Statements.{PointerTree, pointer_tokens, arity, Pieces, pieces_tokens, pieces_height, pieces_stmts, pieces_scope, ArePieces}
 
 -- ---- heads
@@ -177,6 +178,17 @@ AreExternals u (x ∷ xs) = IsExternal u x × AreExternals u xs
 
 -- ---- the program
 
+-- what declarations give: the parts of a program, how many cells may still follow, and what is refused of
+-- globals, prototypes and functions
+pub record Parts : Type 0 where
+  pub globals : List GlobalVar
+  pub protos : List Proto
+  pub funcs : List Func
+  pub room : ℕ
+  pub early_globals : List Refusal
+  pub early_protos : List Refusal
+  pub early_funcs : List Refusal
+
 abbrev pub with_global : Parts → GlobalVar → ℕ → List Refusal → Parts
 with_global a x cells early = record {
   globals = a.globals ++ x ∷ [];
@@ -210,17 +222,14 @@ with_func a x early = record {
   early_funcs = a.early_funcs ++ early;
 }
 
-abbrev pub cell_limit : Unit → ℕ
-cell_limit u = if is_merge u then 3145728 else 1048576
-
 abbrev pub no_parts : Unit → Parts
 no_parts u = record { globals = []; protos = []; funcs = []; room = cell_limit u; early_globals = []; early_protos = []; early_funcs = [] }
 
 -- an array of so many elements with so many initializers can't be held, where so many cells are left
 abbrev pub array_refusals : Pos → ℕ → ℕ → ℕ → List Refusal
 array_refusals p room size count =
-    (if nat_lt size count then refusal 10 p ∷ [] else [])
-    ++ (if size == 0 || nat_lt 65536 size || nat_lt room size then refusal 27 p ∷ [] else [])
+    (if nat_lt size count then refused_at wrong_kind p ∷ [] else [])
+    ++ (if size == 0 || nat_lt element_limit size || nat_lt room size then refused_at past_limit p ∷ [] else [])
 
 -- the initializers and then zeros, or nothing where the array is refused
 abbrev pub kept_values : List Refusal → ℕ → List ℤ → List ℤ

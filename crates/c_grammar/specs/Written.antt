@@ -2,6 +2,7 @@
 use Rattle.std.specs.Prelude.{ℕ, List, All}
 use Rattle.std.specs.List.{Contains}
 use Rattle.c_lang.specs.Names.{Bytes}
+use Rattle.c_lang.specs.Limits.{height_limit}
 use Rattle.c_lang.specs.declared.unit.Unit.{Unit}
 use Rattle.c_lang.specs.declared.program.Program.{Program}
 use Rattle.c_grammar.specs.declared.token.Token.{Token}
@@ -22,9 +23,9 @@ pub record IsGiven (u : Unit) (t : Token) : Type 0 where
   pub lexed : Lexed u bytes tokens
   pub there : Contains tokens t
 
--- the program is written in this unit: it has tokens, each of which a text of the unit can have
+-- the program is written in this unit: it has tokens, each of which a text of the unit can have, and they
+-- are no higher than the unit allows
 pub record IsWritten (u : Unit) (p : Program) : Type 0 where
-  pub deep : ℕ
   pub tokens : List Token
   pub given : All (IsGiven u) tokens
-  pub gram : Gram u deep tokens p
+  pub gram : Gram u (height_limit u) tokens p

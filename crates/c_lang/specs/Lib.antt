@@ -7,3 +7,5 @@ pub mod Trees
 pub mod Values
 pub mod Evaluation
 pub mod Programs
+pub mod Limits
+pub mod Refusals

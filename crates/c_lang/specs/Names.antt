@@ -1,5 +1,5 @@
 -- Names as contracts see them, and what an identifier is.
-use Rattle.std.specs.Prelude.{ℕ, Bool, false, ◌&&◌, ◌||◌, ◌==◌, nat_le, nat_eq, bytes_eq, List, [], ◌∷◌, codes}
+use Rattle.std.specs.Prelude.{ℕ, Bool, false, ◌&&◌, ◌||◌, ◌==◌, nat_le, nat_eq, bytes_eq, if◌then◌else◌, List, [], ◌∷◌, length, drop, Option, Some, None, codes}
 use Rattle.std.specs.List.{list_all, list_any, starts_with}
 
 abbrev pub Bytes : Type 0
@@ -39,3 +39,7 @@ is_keyword name = list_any (bytes_eq name) c_keywords || list_any (bytes_eq name
 
 abbrev pub is_reserved : Bytes → Bool
 is_reserved name = starts_with nat_eq name (codes "dsu_")
+
+-- what follows the first text in the second, which begins with it
+abbrev pub behind : Bytes → Bytes → Option Bytes
+behind prefix text = if starts_with nat_eq text prefix then Some (drop (length prefix) text) else None

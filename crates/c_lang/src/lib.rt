@@ -4,7 +4,7 @@
 
 pub mod event;
 pub mod expr;
-pub mod layout;
+pub mod limits;
 pub mod name;
 pub mod program;
 pub mod refusal;
@@ -13,8 +13,9 @@ pub mod unit;
 
 pub use event::{Event, Trap};
 pub use expr::{Expr, Op};
+pub use limits::{ELEMENT_LIMIT, FRAME_LIMIT, PARAMETER_LIMIT, cell_limit, height_limit, limit_of};
 pub use name::Name;
 pub use program::{Func, GlobalVar, Program, Proto, Shape};
 pub use refusal::{Fail, Refusal};
 pub use stmt::{Dest, Kind, Stmt, same_kinds, same_result};
-pub use unit::{Pos, Unit, limit_of};
+pub use unit::{Pos, Unit};

@@ -28,13 +28,17 @@ impl Kind {
 pub fn same_kinds(left: &[Kind], right: &[Kind]) -> bool
     ensures { result ≡ spec.same_kinds left.now right.now }
 {
-    let [first, left @ ..] = left else {
-        return right.is_empty();
-    };
-    let [second, right @ ..] = right else {
-        return false;
-    };
-    first.same_as(*second) && same_kinds(left, right)
+    let mut others = right;
+    for kind in left {
+        let [other, rest @ ..] = others else {
+            return false;
+        };
+        if !kind.same_as(*other) {
+            return false;
+        }
+        others = rest;
+    }
+    others.is_empty()
 }
 
 /// Whether both functions give a value, or neither does.

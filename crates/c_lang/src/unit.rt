@@ -1,5 +1,4 @@
 ghost use Rattle.std.specs.Prelude.{◌≡◌, Some};
-ghost use Rattle.c_lang.specs.Limits.{size_limit};
 ghost use Rattle.c_lang.specs.Units.{word};
 
 use std::fmt;
@@ -47,15 +46,4 @@ impl fmt::Display for Unit {
 pub struct Pos {
     pub unit: Unit,
     pub line: u32,
-}
-
-/// The most bytes that the text of a unit may have: 262,144 for a source or hints, 67,108,864 for
-/// a merged text or certificates. It takes no memory.
-pub fn limit_of(unit: Unit) -> usize
-    ensures { result ≡ size_limit unit }
-{
-    match unit {
-        Unit::Merge | Unit::Certs => 67_108_864,
-        Unit::Old | Unit::New | Unit::Xform | Unit::Client | Unit::Hints => 262_144,
-    }
 }

@@ -9,7 +9,7 @@ use Rattle.c_grammar.specs.Bytes.{is_white, is_in_line, is_in_word, is_in_number
 use Rattle.c_grammar.specs.Words.{keyword_number, is_refused}
 use Rattle.c_grammar.specs.Punctuators.{punctuator_number, IsLongest}
 use Rattle.c_grammar.specs.Pieces.{begins_comment, IsNumber, IsPiece, white, block_comment, line_comment, include_line, position_line, number, keyword, identifier, punctuator}
-use Rattle.c_grammar.specs.Lexed.{Cuts, ends, goes, behind, tokens_of}
+use Rattle.c_grammar.specs.Lexed.{Cuts, ends, goes, place_behind, tokens_of}
 use Rattle.c_lexer.specs.Code.Reading as spec
 use Rattle.c_lexer.specs.Code.Reading.{closing, piece_at, Outcome, kept, with_front, reading_from}
 use Rattle.c_grammar.specs.declared.token.Token.{Token}
@@ -130,8 +130,8 @@ pub no_front : (o : Outcome) → with_front [] o ≡ o
 no_front (Ok tokens) = refl
 no_front (Err why) = refl
 
--- a piece is read, and then what is behind it
-pub piece_read : (u : Unit) (p : Place) (text rest : Bytes) (x : Piece) → IsPiece u p.fresh rest text x → reading_from u 0 p (text ++ rest) ≡ with_front (tokens_of p x text) (reading_from u 0 (behind p x text) rest)
+-- a piece is read, and then what is place_behind it
+pub piece_read : (u : Unit) (p : Place) (text rest : Bytes) (x : Piece) → IsPiece u p.fresh rest text x → reading_from u 0 p (text ++ rest) ≡ with_front (tokens_of p x text) (reading_from u 0 (place_behind p x text) rest)
 piece_read u p text rest x is =
     let some = piece_some u p.fresh rest text x is in
     let step = goes_on u p (text ++ rest) [] (tokens_of p x text) (x, length text) (omega (arith, length-append text rest)) some (sym (piece_again u p.fresh rest text x is)) (no_front (kept p (x, length text)) ∙ piece_kept u p rest text x is) in
@@ -141,4 +141,4 @@ pub cuts_again : (u : Unit) (p : Place) (z : Bytes) (tokens : List Token) → Cu
 unfolding reading_from
 cuts_again u p z tokens (ends _) = refl
 cuts_again u p z tokens (goes _ text rest x more is others) =
-    piece_read u p text rest x is ∙ rw (cuts_again u (behind p x text) rest more others) refl
+    piece_read u p text rest x is ∙ rw (cuts_again u (place_behind p x text) rest more others) refl

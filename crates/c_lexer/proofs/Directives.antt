@@ -154,7 +154,7 @@ position_parts (Some line) (Some v) p e =
           (ap (λ (q : Pos). Some q.line) same, ap (λ (q : Pos). Some q.unit) same, subst (λ (q : Pos). 1 ≤ q.line) same (no_zero line h.0))
     ]
 
--- what stands behind `#line` and its gap
+-- what stands place_behind `#line` and its gap
 record IsNumbered (z : Bytes) (p : Pos) : Type 0 where
   number : Bytes
   between : Bytes
@@ -169,9 +169,9 @@ unfolding numbered
 numbered_is z p e =
     let n = prefix_len is_digit z in
     let found = position_parts (number_of (take n z)) (unit_by (behind_spaces (drop n z))) p e in
-    let behind = unit_is (behind_spaces (drop n z)) p.unit found.1 in
-    let gap = gap_is (drop n z) behind.0 behind.1 in
-    let u = quoted_is behind.0 p.unit behind.2 in
+    let place_behind = unit_is (behind_spaces (drop n z)) p.unit found.1 in
+    let gap = gap_is (drop n z) place_behind.0 place_behind.1 in
+    let u = quoted_is place_behind.0 p.unit place_behind.2 in
     record {
       number = take n z;
       between = gap.gap;
@@ -216,10 +216,10 @@ space_no_digit byte h = grind (arith, nat_tests)
 numbered_again : (number between : Bytes) (p : Pos) → IsNumber number p.line → IsGap between → HasPrograms p.unit → 1 ≤ p.line → numbered (number ++ (between ++ quoted p.unit)) ≡ Some p
 unfolding numbered
 numbered_again number between p n gap named some =
-    let behind = between ++ quoted p.unit in
-    let ends : IsEnd is_digit behind = ends_before is_digit between (quoted p.unit) gap.some (space_no_digit (slice_index between 0) (first_all is_space between gap.spaces gap.some)) in
-    let run = run_again is_digit number behind (record { all = n.digits; ends = ends }) in
-    rw (run, take_at number behind (length number) refl, drop_at number behind (length number) refl, number_again number p.line n, gap_again between (quoted p.unit) gap refl, quoted_again p.unit named, some_not_zero p.line some) refl
+    let place_behind = between ++ quoted p.unit in
+    let ends : IsEnd is_digit place_behind = ends_before is_digit between (quoted p.unit) gap.some (space_no_digit (slice_index between 0) (first_all is_space between gap.spaces gap.some)) in
+    let run = run_again is_digit number place_behind (record { all = n.digits; ends = ends }) in
+    rw (run, take_at number place_behind (length number) refl, drop_at number place_behind (length number) refl, number_again number p.line n, gap_again between (quoted p.unit) gap refl, quoted_again p.unit named, some_not_zero p.line some) refl
 
 pub position_again : (line : Bytes) (p : Pos) → SetsPosition line p → position_of line ≡ Some p
 unfolding position_of

@@ -1,5 +1,5 @@
 -- The clauses of `lex`, from what its loop computes.
-use Rattle.std.proofs.Common.{◌≡◌, ◌≢◌, ◌<◌, ◌≤◌, List, length, Result, Ok, Err, refl, sym, ap, subst, ◌∙◌, arith, inl, inr}
+use Rattle.std.proofs.Common.{All, ◌≡◌, ◌≢◌, ◌<◌, ◌≤◌, List, length, Result, Ok, Err, refl, sym, ap, subst, ◌∙◌, arith, inl, inr}
 use Rattle.std.specs.Global.{Vec}
 use Rattle.std.specs.Prelude.{MatchResult, IfOk, ◌⊎◌}
 use Rattle.std.proofs.lemmas.Bool.{cases_lt}
@@ -11,7 +11,10 @@ use Rattle.c_lang.specs.declared.refusal.Fail.{Fail}
 use Rattle.c_lang.specs.declared.refusal.Fail.TheVariants as fail
 use Rattle.c_lang.specs.declared.refusal.Refusal.{Refusal}
 use Rattle.c_grammar.specs.Pieces.{fault_number}
-use Rattle.c_grammar.specs.Lexed.{Lexed, first_place, refusal, Refused, too_long, has_fault, IsRefusedAs, AreSpans}
+use Rattle.c_grammar.specs.Lexed.{Lexed, first_place, Refused, too_long, has_fault, IsRefusedAs, AreSpans}
+use Rattle.c_lang.specs.Refusals.{refused_at, past_limit}
+use Rattle.c_grammar.specs.Written.{IsGiven}
+use Rattle.std.proofs.lemmas.List.Elements.{Contains-get_or}
 use Rattle.c_lexer.specs.Code.Reading.{Outcome, Fails, reading}
 use Rattle.c_grammar.specs.declared.token.Token.{Token}
 use Rattle.c_lexer.proofs.Turns.{ok_is}
@@ -56,12 +59,17 @@ first u z (Err (fail.Refused given)) within h why is =
     let same = err_is given why (sym h ∙ reads_refused u z why within is) in
     λ other. ap (λ (w : Refusal). fail.Refused w) same
 
+pub given_by : (u : Unit) (z : Bytes) (r : Result (Vec Token) Fail) → length z ≤ size_limit u → Reads u z r → IfOk r (λ tokens. All (IsGiven u) tokens.items)
+given_by u z (Ok tokens) within h =
+    λ k d lt. record { bytes = z; tokens = tokens.items; lexed = means_whole u z (Ok tokens.items) h; there = Contains-get_or tokens.items k d lt }
+given_by u z (Err f) within h = tt
+
 pub spans_of : (u : Unit) (z : Bytes) (r : Result (Vec Token) Fail) → Reads u z r → IfOk r (λ tokens. AreSpans z 0 tokens.items)
 spans_of u z (Ok tokens) h = spans u z tokens.items (means_whole u z (Ok tokens.items) h)
 spans_of u z (Err f) h = tt
 
 -- past the limit there is one reason
-pub only_long : (u : Unit) (z : Bytes) (why : Refusal) → size_limit u < length z → Refused u z why → refusal 27 (at u 1) ≡ why
+pub only_long : (u : Unit) (z : Bytes) (why : Refusal) → size_limit u < length z → Refused u z why → refused_at past_limit (at u 1) ≡ why
 only_long u z why long (too_long _) = refl
 only_long u z why long (has_fault f p le is) = let never : ⊥ = omega arith in absurd never
 
@@ -78,10 +86,10 @@ either u z = by_size (cases_lt (size_limit u) (length z))
   where
     by_outcome : length z ≤ size_limit u → (o : Outcome) → Means u (first_place u) z o → ((length z ≤ size_limit u) × ((tokens : List Token) × Lexed u z tokens)) ⊎ ((why : Refusal) × Refused u z why)
     by_outcome within (Ok tokens) m = inl (within, (tokens, m))
-    by_outcome within (Err why) m = inr (refusal (fault_number m.fault) m.position, has_fault m.fault m.position within m.stops)
+    by_outcome within (Err why) m = inr (refused_at (fault_number m.fault) m.position, has_fault m.fault m.position within m.stops)
 
     by_size : (size_limit u < length z) ⊎ (length z ≤ size_limit u) → ((length z ≤ size_limit u) × ((tokens : List Token) × Lexed u z tokens)) ⊎ ((why : Refusal) × Refused u z why)
-    by_size (inl long) = inr (refusal 27 (at u 1), too_long long)
+    by_size (inl long) = inr (refused_at past_limit (at u 1), too_long long)
     by_size (inr within) = by_outcome within (reading u z) (means_whole u z (reading u z) refl)
 
 pub not_both : (u : Unit) (z : Bytes) (tokens : List Token) (why : Refusal) → length z ≤ size_limit u → Lexed u z tokens → Refused u z why → ⊥

@@ -10,3 +10,4 @@ pub mod Complete
 pub mod Sound
 pub mod Spans
 pub mod LexLaws
+pub mod WordNumbers

@@ -16,7 +16,8 @@ use Rattle.c_grammar.specs.Punctuators.{punctuator_number, IsLongest}
 use Rattle.c_grammar.specs.Pieces as text
 use Rattle.c_grammar.specs.Pieces.{has_close, begins_comment, IsNumber, IsInclude, SetsPosition, IsPiece, IsFault, fault_number}
 use Rattle.c_grammar.specs.Lexed as whole
-use Rattle.c_grammar.specs.Lexed.{behind, tokens_of, Cuts, Stops, refusal}
+use Rattle.c_grammar.specs.Lexed.{place_behind, tokens_of, Cuts, Stops}
+use Rattle.c_lang.specs.Refusals.{refused_at}
 use Rattle.c_lexer.specs.Code.Reading as spec
 use Rattle.c_lexer.specs.Code.Reading.{Cut, closing, piece_at, Outcome, with_front, reading_from}
 use Rattle.c_grammar.specs.declared.piece.Fault.{Fault}
@@ -216,16 +217,16 @@ fault_some u fresh z why (text.directive line rest new run no_include no_positio
 fault_some u fresh z why (text.reserved front rest run is taken) = omega (arith, length-append front rest, word_some front is)
 fault_some u fresh z why (text.open_comment rest unclosed) = omega arith
 
-bad_first : (u : Unit) (p : Place) (z : Bytes) (why : Fault) → 1 ≤ length z → IsBad why (piece_at u p.fresh z) → reading_from u 0 p z ≡ Err (refusal (fault_number why) p.pos)
+bad_first : (u : Unit) (p : Place) (z : Bytes) (why : Fault) → 1 ≤ length z → IsBad why (piece_at u p.fresh z) → reading_from u 0 p z ≡ Err (refused_at (fault_number why) p.pos)
 unfolding reading_from
 bad_first u p [] why some bad = let never : ⊥ = omega arith in absurd never
 bad_first u p (byte ∷ z) why some bad = rw bad.1 refl
 
 -- the first fault is refused
-pub stops_again : (u : Unit) (p : Place) (z : Bytes) (why : Fault) (q : Pos) → Stops u p z why q → reading_from u 0 p z ≡ Err (refusal (fault_number why) q)
+pub stops_again : (u : Unit) (p : Place) (z : Bytes) (why : Fault) (q : Pos) → Stops u p z why q → reading_from u 0 p z ≡ Err (refused_at (fault_number why) q)
 stops_again u p z why q (whole.here _ _ _ is) = bad_first u p z why (fault_some u p.fresh z why is) (fault_again u p.fresh z why is)
 stops_again u p z why q (whole.later _ front rest x _ _ is others) =
-    piece_read u p front rest x is ∙ rw (stops_again u (behind p x front) rest why q others) refl
+    piece_read u p front rest x is ∙ rw (stops_again u (place_behind p x front) rest why q others) refl
 
 -- ---- what is read is what the text is made of
 
@@ -233,13 +234,13 @@ pub record IsStopped (u : Unit) (p : Place) (z : Bytes) (why : Refusal) : Type 0
   pub fault : Fault
   pub position : Pos
   pub stops : Stops u p z fault position
-  pub same : why ≡ refusal (fault_number fault) position
+  pub same : why ≡ refused_at (fault_number fault) position
 
 abbrev pub Means : Unit → Place → Bytes → Outcome → Type 0
 Means u p z (Ok tokens) = Cuts u p z tokens
 Means u p z (Err why) = IsStopped u p z why
 
-means_more : (u : Unit) (p : Place) (front rest : Bytes) (x : Piece) (more : Outcome) → IsPiece u p.fresh rest front x → Means u (behind p x front) rest more → Means u p (front ++ rest) (with_front (tokens_of p x front) more)
+means_more : (u : Unit) (p : Place) (front rest : Bytes) (x : Piece) (more : Outcome) → IsPiece u p.fresh rest front x → Means u (place_behind p x front) rest more → Means u p (front ++ rest) (with_front (tokens_of p x front) more)
 means_more u p front rest x (Ok tokens) is m = whole.goes p front rest x tokens is m
 means_more u p front rest x (Err why) is m =
     record { fault = m.fault; position = m.position; stops = whole.later p front rest x m.fault m.position is m.stops; same = m.same }
@@ -247,15 +248,15 @@ means_more u p front rest x (Err why) is m =
 abbrev Rest : Unit → Place → Bytes → Type 0
 Rest u p rest = Means u p rest (reading_from u 0 p rest)
 
-means_piece : (u : Unit) (p : Place) (z : Bytes) (x : Piece) (n : ℕ) → HasPiece u p.fresh z x n → (1 ≤ n → Rest u (behind p x (take n z)) (drop n z)) → Rest u p z
+means_piece : (u : Unit) (p : Place) (z : Bytes) (x : Piece) (n : ℕ) → HasPiece u p.fresh z x n → (1 ≤ n → Rest u (place_behind p x (take n z)) (drop n z)) → Rest u p z
 means_piece u p z x n met more =
     let front = take n z in
     let rest = drop n z in
     let some : 1 ≤ n = omega (arith, piece_some u p.fresh rest front x met.1, length-take n z) in
-    let m = means_more u p front rest x (reading_from u 0 (behind p x front) rest) met.1 (more some) in
+    let m = means_more u p front rest x (reading_from u 0 (place_behind p x front) rest) met.1 (more some) in
     subst (λ (y : Bytes). Rest u p y) (take-append-drop n z) (rw (piece_read u p front rest x met.1) m)
 
-means_turn : (u : Unit) (p : Place) (z : Bytes) (x : Piece) (n : ℕ) → 1 ≤ length z → piece_at u p.fresh z ≡ (x, n) → Meets u p.fresh z (x, n) → (1 ≤ n → Rest u (behind p x (take n z)) (drop n z)) → Rest u p z
+means_turn : (u : Unit) (p : Place) (z : Bytes) (x : Piece) (n : ℕ) → 1 ≤ length z → piece_at u p.fresh z ≡ (x, n) → Meets u p.fresh z (x, n) → (1 ≤ n → Rest u (place_behind p x (take n z)) (drop n z)) → Rest u p z
 means_turn u p z (piece.Fault why) n some e met more =
     rw (bad_first u p z why some (n, e)) (record { fault = why; position = p.pos; stops = whole.here p z why met; same = refl })
 means_turn u p z piece.Space n some e met more = means_piece u p z piece.Space n met more
@@ -269,4 +270,4 @@ means u zero p (byte ∷ z) le = let never : ⊥ = omega arith in absurd never
 means u (suc most) p (byte ∷ z) le =
     let cut = piece_at u p.fresh (byte ∷ z) in
     means_turn u p (byte ∷ z) cut.0 cut.1 (omega arith) refl (meets u p.fresh byte z)
-    (λ some. means u most (behind p cut.0 (take cut.1 (byte ∷ z))) (drop cut.1 (byte ∷ z)) (omega (arith, length-drop cut.1 (byte ∷ z))))
+    (λ some. means u most (place_behind p cut.0 (take cut.1 (byte ∷ z))) (drop cut.1 (byte ∷ z)) (omega (arith, length-drop cut.1 (byte ∷ z))))

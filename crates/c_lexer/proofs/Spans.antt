@@ -7,7 +7,7 @@ use Rattle.c_lang.specs.declared.unit.Unit.{Unit}
 use Rattle.c_grammar.specs.Pieces as text
 use Rattle.c_grammar.specs.Pieces.{IsPiece}
 use Rattle.c_grammar.specs.Lexed as whole
-use Rattle.c_grammar.specs.Lexed.{after_byte, after_bytes, turned, behind, token, tokens_of, Cuts, Says, AreSpans}
+use Rattle.c_grammar.specs.Lexed.{after_byte, after_bytes, turned, place_behind, token, tokens_of, Cuts, Says, AreSpans}
 use Rattle.c_grammar.specs.declared.token.Token.{Token}
 use Rattle.c_grammar.specs.declared.piece.Piece.{Piece}
 use Rattle.c_grammar.specs.declared.piece.Piece.TheVariants as piece
@@ -62,7 +62,7 @@ spans_more bytes front p (piece.Token what) from tokens says some e h =
 spans_from : (u : Unit) (bytes before z : Bytes) (p : Place) (tokens : List Token) → before ++ z ≡ bytes → p.offset ≡ length before → Cuts u p z tokens → AreSpans bytes p.offset tokens
 spans_from u bytes before z p tokens parts at (whole.ends _) = omega (arith, at, length-append before z, ap length parts)
 spans_from u bytes before z p tokens parts at (whole.goes _ front rest x more is others) =
-    let q = behind p x front in
+    let q = place_behind p x front in
     let offset : q.offset ≡ p.offset + length front = omega (arith, after_bytes_offset (turned p x) front, turned_offset p x) in
     let later = spans_from u bytes (before ++ front) rest q more (append_assoc before front rest ∙ parts) (omega (arith, length-append before front)) others in
     let says = subst (λ (y : Bytes). PieceSays y x) (sym (slice_is before front rest bytes p.offset parts at)) (piece_says u p.fresh rest front x is) in

@@ -6,7 +6,8 @@ ghost use Rattle.c_lexer.specs.Code.Reading as spec;
 ghost use Rattle.c_lexer.specs.Code.Reading.{Fits, IsWithin};
 
 use crate::bytes::{Class, byte_at, is_in, is_same, run_of};
-use crate::piece::{Fault, Piece, number_of};
+use crate::piece::number_of;
+use c_grammar::{Fault, Piece};
 use c_lang::{Pos, Unit};
 
 fn begins_include(text: &[u8]) -> bool

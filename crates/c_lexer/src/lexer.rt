@@ -1,32 +1,24 @@
 //! A whole text, piece after piece.
 
-ghost use Rattle.std.specs.Prelude.{◌⊎◌, ◌≡◌, ◌≢◌, ◌<◌, ◌≤◌, ◌+◌, ◌^◌, ℕ, List, max, length, Ok, IfOk, OnOk, IfErr, MatchResult};
+ghost use Rattle.std.specs.Prelude.{◌⊎◌, ◌≡◌, ◌≢◌, ◌<◌, ◌≤◌, ◌+◌, ◌^◌, ℕ, List, All, max, length, Ok, IfOk, OnOk, IfErr, MatchResult};
 ghost use Rattle.c_lang.specs.Names.{Bytes};
 ghost use Rattle.c_lang.specs.Limits.{size_limit};
 ghost use Rattle.c_lang.specs.declared.refusal.Refusal.{Refusal};
 ghost use Rattle.c_grammar.specs.declared.token.Token.{Token};
 ghost use Rattle.c_grammar.specs.Lexed as text;
-ghost use Rattle.c_grammar.specs.Lexed.{AreSpans, IsRefusedAs, Lexed, Refused, refusal};
+ghost use Rattle.c_grammar.specs.Lexed.{AreSpans, IsRefusedAs, Lexed, Refused};
+ghost use Rattle.c_grammar.specs.Written.{IsGiven};
+ghost use Rattle.c_lang.specs.Refusals.{refused_at};
 ghost use Rattle.c_lexer.specs.Code.Reading as spec;
 ghost use Rattle.c_lexer.specs.Code.Reading.{Fits};
 
-use crate::piece::{Piece, piece_at};
-use crate::token::Token;
-use c_lang::{Fail, Pos, Refusal, Unit, limit_of};
+use crate::piece::piece_at;
+use c_grammar::{Piece, Place, Token};
+use c_lang::{Fail, Pos, Refusal, Unit, limit_of, refusal};
 use std::alloc::Global;
 
-/// Where a piece of a text stands.
-#[derive(Clone, Copy, Debug)]
-pub struct Place {
-    /// How many bytes stand before it.
-    pub offset: u32,
-    pub pos: Pos,
-    /// Whether only spaces and tabs stand before it on its line.
-    pub fresh: bool,
-}
-
 fn refused(number: u8, pos: Pos) -> Fail
-    ensures { result ≡ Fail.Refused (refusal number pos) }
+    ensures { result ≡ Fail.Refused (refused_at number pos) }
 {
     Fail::Refused(Refusal {
         number,
@@ -141,11 +133,13 @@ pub fn lex(alloc: Global, unit: Unit, bytes: &[u8]) -> Result<Vec<Token>, Fail>
     // Unless memory runs out, each text that is to be refused is refused, and as it is to be.
     ensures first { (why : Refusal) → Refused unit bytes.now why
         → MatchResult result (λ _. ⊥) (λ fail. fail ≢ Fail.NoMemory → fail ≡ Fail.Refused why) }
+    // Each token is one that a text of the unit has.
+    ensures given { IfOk result (λ tokens. All (IsGiven unit) tokens.items) }
     // The tokens' spans are in order, and each token is what its slice of the text says.
     ensures spans { IfOk result (λ tokens. AreSpans bytes.now 0 tokens.items) }
 {
     if bytes.len() > limit_of(unit) {
-        return Err(refused(27, Pos { unit, line: 1 }));
+        return Err(refused(refusal::PAST_LIMIT, Pos { unit, line: 1 }));
     }
     cut(alloc, unit, bytes)
 }

@@ -4,13 +4,13 @@
 
 mod bytes;
 mod directive;
+pub mod keyword;
 mod lexer;
 mod piece;
-#[cfg(test)]
-mod tests;
-mod token;
+pub mod punctuator;
 mod words;
 
-pub use lexer::{Place, lex, lexed_or_refused, one_refusal, one_token_list};
-pub use piece::{Fault, Piece};
-pub use token::{Token, Word};
+pub use c_grammar::{Token, Word};
+pub use keyword::keywords_have_numbers;
+pub use lexer::{lex, lexed_or_refused, one_refusal, one_token_list};
+pub use punctuator::punctuators_have_numbers;

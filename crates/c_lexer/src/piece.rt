@@ -10,51 +10,11 @@ ghost use Rattle.c_lexer.specs.Code.Reading.{Fits, IsWithin};
 
 use crate::bytes::{Class, byte_at, is_digit, is_in, is_letter, is_white, run_of};
 use crate::directive::directive;
-use crate::token::Word;
+use crate::punctuator;
 use crate::words::{is_refused, keyword_number};
-use c_lang::{Name, Pos, Unit};
+use c_grammar::{Fault, Piece, Word};
+use c_lang::{Name, Unit};
 use std::alloc::{AllocError, Global};
-
-/// What is wrong with a text, in the lexer's sight.
-#[derive(Clone, Copy, Debug, PartialEq, Eq)]
-pub enum Fault {
-    /// No piece begins with this byte.
-    BadByte,
-    /// Digits, letters, `_` and `.` that begin with a digit and are no number.
-    BadNumber,
-    /// A `#` that begins its line, and neither an `#include` line nor, in a merged text, a `#line` directive.
-    Directive,
-    /// A word that begins with `dsu_` and isn't allowed in this unit.
-    Reserved,
-    /// A comment that isn't closed.
-    OpenComment,
-}
-
-impl Fault {
-    /// The number of the refusal.
-    pub fn number(self) -> u8
-        ensures { result ≡ pieces.fault_number self }
-    {
-        match self {
-            Fault::BadByte => 1,
-            Fault::BadNumber => 2,
-            Fault::Directive => 4,
-            Fault::Reserved => 6,
-            Fault::OpenComment => 28,
-        }
-    }
-}
-
-/// What stands at the front of a text.
-#[derive(Debug, Drop)]
-pub enum Piece {
-    /// White space, a comment or an `#include` line.
-    Space,
-    Token(Word),
-    /// A `#line` directive, with the position that it gives to the next line.
-    Position(Pos),
-    Fault(Fault),
-}
 
 fn has_leading_zero(text: &[u8]) -> bool
     ensures { result ≡ spec.has_leading_zero text.now }
@@ -164,23 +124,23 @@ fn single(byte: u8) -> Option<u8>
     ensures { result ≡ spec.single byte }
 {
     match byte {
-        b'(' => Some(0),
-        b')' => Some(1),
-        b'{' => Some(2),
-        b'}' => Some(3),
-        b'[' => Some(4),
-        b']' => Some(5),
-        b';' => Some(6),
-        b',' => Some(7),
-        b'=' => Some(8),
-        b'+' => Some(9),
-        b'-' => Some(10),
-        b'*' => Some(11),
-        b'/' => Some(12),
-        b'%' => Some(13),
-        b'!' => Some(14),
-        b'<' => Some(15),
-        b'>' => Some(16),
+        b'(' => Some(punctuator::ROUND_OPEN),
+        b')' => Some(punctuator::ROUND_CLOSE),
+        b'{' => Some(punctuator::BRACE_OPEN),
+        b'}' => Some(punctuator::BRACE_CLOSE),
+        b'[' => Some(punctuator::SQUARE_OPEN),
+        b']' => Some(punctuator::SQUARE_CLOSE),
+        b';' => Some(punctuator::SEMICOLON),
+        b',' => Some(punctuator::COMMA),
+        b'=' => Some(punctuator::EQUALS),
+        b'+' => Some(punctuator::PLUS),
+        b'-' => Some(punctuator::MINUS),
+        b'*' => Some(punctuator::STAR),
+        b'/' => Some(punctuator::SLASH),
+        b'%' => Some(punctuator::PERCENT),
+        b'!' => Some(punctuator::BANG),
+        b'<' => Some(punctuator::LESS),
+        b'>' => Some(punctuator::GREATER),
         _ => None,
     }
 }
@@ -191,14 +151,14 @@ fn pair(byte: u8, next: u8) -> Option<u8>
     ensures { result ≡ spec.pair byte next }
 {
     match (byte, next) {
-        (b'<', b'=') => Some(17),
-        (b'>', b'=') => Some(18),
-        (b'=', b'=') => Some(19),
-        (b'!', b'=') => Some(20),
-        (b'&', b'&') => Some(21),
-        (b'|', b'|') => Some(22),
-        (b'+', b'+') => Some(23),
-        (b'-', b'-') => Some(24),
+        (b'<', b'=') => Some(punctuator::AT_MOST),
+        (b'>', b'=') => Some(punctuator::AT_LEAST),
+        (b'=', b'=') => Some(punctuator::SAME),
+        (b'!', b'=') => Some(punctuator::DIFFERENT),
+        (b'&', b'&') => Some(punctuator::AND),
+        (b'|', b'|') => Some(punctuator::OR),
+        (b'+', b'+') => Some(punctuator::TWO_PLUSES),
+        (b'-', b'-') => Some(punctuator::TWO_MINUSES),
         _ => None,
     }
 }

@@ -5,11 +5,11 @@ ghost use Rattle.c_lines.specs.Code.Readers.{many};
 ghost use Rattle.c_lines.specs.Code.SourceReading.{Gives};
 ghost use Rattle.c_lines.specs.Code.LayoutReading as spec;
 
+use crate::parts::both_name;
 use crate::source::{declared, setting, show};
 use crate::stop::Stop;
 use crate::text::{behind, number, placed, position};
 use c_lang::Pos;
-use c_lang::layout::both_name;
 use std::alloc::{AllocError, Global};
 
 /// The positions of the lines that a point becomes.

@@ -7,7 +7,7 @@ ghost use Rattle.c_lines.specs.Code.LayoutReading as spec;
 
 use crate::build::{global, return_zero};
 use crate::layout::{Layout, Main, Piece, Prototypes, Transform, Wrapper};
-use c_lang::layout::{both_name, expansion, function, prototype, returned_call, wrapper_body};
+use crate::parts::{both_name, expansion, function, prototype, returned_call, wrapper_body};
 use c_lang::{Dest, Expr, Func, GlobalVar, Pos, Program, Proto, Stmt};
 use sqlite_items::Items;
 use std::alloc::{AllocError, Global};

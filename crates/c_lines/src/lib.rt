@@ -5,6 +5,7 @@ mod build;
 mod first_form;
 mod layout;
 mod layout_program;
+pub mod parts;
 mod source;
 mod source_program;
 mod stop;

@@ -7,8 +7,8 @@ ghost use Rattle.c_lines.specs.Sources.{FitsAction, IsSource, IsSetter};
 ghost use Rattle.c_lines.specs.Code.SourceReading as spec;
 
 use crate::build::{global, one, output, return_zero, set_statement};
+use crate::parts::function;
 use crate::source::{Action, Setter, Source};
-use c_lang::layout::function;
 use c_lang::{Pos, Program, Stmt, Unit};
 use sqlite_items::Items;
 use std::alloc::{AllocError, Global};

@@ -6,7 +6,7 @@ use Rattle.c_lang.specs.declared.program.Program.{Program}
 use Rattle.c_grammar.specs.declared.token.Token.{Token}
 use Rattle.c_expressions.specs.Code.ParseSteps.{◌>>=◌}
 use Rattle.c_expressions.proofs.ExpressionSound.{bind_some, some_is}
-use Rattle.c_parser.specs.declared.parts.Parts.{Parts}
+use Rattle.c_grammar.specs.Units.{Parts}
 use Rattle.c_grammar.specs.Units.{External, number, array, pointer, prototype, function, external_tokens, AreExternals, add, add_all, no_parts, unit_tokens, unit_height}
 use Rattle.c_grammar.specs.Grammar.{program_of, Gram}
 use Rattle.c_parser.specs.Code.UnitReading.{external, externals, unit_at}

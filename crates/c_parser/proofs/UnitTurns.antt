@@ -5,7 +5,7 @@ use Rattle.c_grammar.specs.declared.token.Token.{Token}
 use Rattle.c_expressions.specs.declared.parse_error.ParseError.{ParseError}
 use Rattle.c_expressions.specs.declared.parse_error.ParseError.TheVariants as error
 use Rattle.c_expressions.specs.Code.ParseSteps.{◌>>=◌, Fails}
-use Rattle.c_parser.specs.declared.parts.Parts.{Parts}
+use Rattle.c_grammar.specs.Units.{Parts}
 use Rattle.c_parser.specs.Code.UnitReading.{external, externals}
 
 module _ (u : Unit) (d : ℕ) where

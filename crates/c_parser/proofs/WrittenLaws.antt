@@ -1,5 +1,6 @@
 -- The program of a text.
-use Rattle.std.proofs.Common.{◌≡◌, ℕ, List, subst}
+use Rattle.std.proofs.Common.{◌≡◌, ◌≤◌, ℕ, List, subst, arith}
+use Rattle.c_lang.specs.Limits.{height_limit}
 use Rattle.std.proofs.lemmas.List.Elements.{Contains-get_or}
 use Rattle.c_lang.specs.Names.{Bytes}
 use Rattle.c_lang.specs.declared.unit.Unit.{Unit}
@@ -14,10 +15,19 @@ pub one_of_text : (u : Unit) (d e : ℕ) (bytes : Bytes) (p q : Program) → Par
 one_of_text u d e bytes p q a b =
     one u d e b.tokens p q (subst (λ (ts : List Token). Gram u d ts p) (one_list u bytes a.tokens b.tokens a.lexed b.lexed) a.parsed.gram) b.parsed.gram
 
-pub is_written : (u : Unit) (deep : ℕ) (bytes : Bytes) (p : Program) → Parses u deep bytes p → IsWritten u p
-is_written u deep bytes p a = record {
-  deep = deep;
+pub raised : (u : Unit) (d e : ℕ) (ts : List Token) (p : Program) → d ≤ e → Gram u d ts p → Gram u e ts p
+raised u d e ts p within g =
+    let fits = g.height_fits in record {
+      tree = g.tree;
+      valid = g.valid;
+      height_fits = omega arith;
+      written = g.written;
+      program = g.program;
+    }
+
+pub is_written : (u : Unit) (deep : ℕ) (bytes : Bytes) (p : Program) → deep ≤ height_limit u → Parses u deep bytes p → IsWritten u p
+is_written u deep bytes p within a = record {
   tokens = a.tokens;
   given = λ k d lt. record { bytes = bytes; tokens = a.tokens; lexed = a.lexed; there = Contains-get_or a.tokens k d lt };
-  gram = a.parsed.gram;
+  gram = raised u deep (height_limit u) a.tokens p within a.parsed.gram;
 }

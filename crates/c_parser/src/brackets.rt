@@ -12,10 +12,10 @@ fn opened(before: usize, word: &Word) -> usize
     ensures { result ≡ spec.opened before word.now }
 {
     match word {
-        Word::Punct(punctuator::ROUND_OPEN | punctuator::BRACE_OPEN | punctuator::SQUARE_OPEN) => before + 1,
-        Word::Punct(punctuator::ROUND_CLOSE | punctuator::BRACE_CLOSE | punctuator::SQUARE_CLOSE) => {
-            before.saturating_sub(1)
-        }
+        Word::Punct(punctuator::ROUND_OPEN | punctuator::BRACE_OPEN | punctuator::SQUARE_OPEN) =>
+            before + 1,
+        Word::Punct(punctuator::ROUND_CLOSE | punctuator::BRACE_CLOSE | punctuator::SQUARE_CLOSE) =>
+            { before.saturating_sub(1) }
         _ => before,
     }
 }

@@ -156,7 +156,7 @@ fn with_array(
 ) -> Result<Parts, AllocError>
     ensures { IfOk result (λ x. x ≡ units.with_array parts pos name size values) }
 {
-    let early = array_refusals(alloc, pos, parts.room, size, values.len())?;
+    let early = array_refusals(alloc, pos, parts.room(), size, values.len())?;
     let kept = kept_values(alloc, &early, size, values)?;
     let global = GlobalVar {
         name,

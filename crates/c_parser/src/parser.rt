@@ -11,9 +11,8 @@ ghost use Rattle.c_grammar.specs.Parsed.{IsParsed, IsPlace, IsRefusedAs};
 use crate::brackets::too_deep;
 use crate::units::unit_at;
 use c_expressions::parse_error::ParseError;
-use c_lang::{Fail, Pos, Program, Unit};
+use c_lang::{Fail, Pos, Program, Refusal, Unit, refusal};
 use c_lexer::Token;
-use c_statements::scope::refusal;
 use std::alloc::Global;
 
 // The position of the token that has `left` tokens behind it, itself counted, or of the last token
@@ -40,11 +39,14 @@ pub fn parse(alloc: Global, unit: Unit, deep: u32, tokens: &[Token]) -> Result<P
         → MatchResult result (λ answer. answer ≡ program) (λ fail. fail ≡ Fail.NoMemory) }
 {
     if let Some(pos) = too_deep(deep, tokens) {
-        return Err(Fail::Refused(refusal(5, pos)));
+        return Err(Fail::Refused(Refusal::at(refusal::TOO_NESTED, pos)));
     }
     match unit_at(alloc, unit, deep, tokens) {
         Ok(program) => Ok(program),
         Err(ParseError::NoMemory) => Err(Fail::NoMemory),
-        Err(ParseError::Syntax(left)) => Err(Fail::Refused(refusal(3, place(unit, left, tokens)))),
+        Err(ParseError::Syntax(left)) => Err(Fail::Refused(Refusal::at(
+            refusal::SYNTAX_ERROR,
+            place(unit, left, tokens),
+        ))),
     }
 }

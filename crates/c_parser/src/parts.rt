@@ -5,22 +5,45 @@ ghost use Rattle.c_grammar.specs.Grammar as grammar;
 ghost use Rattle.c_grammar.specs.Units as spec;
 ghost use Rattle.c_grammar.specs.Scopes as scopes;
 
-use c_lang::{Func, GlobalVar, Pos, Program, Proto, Refusal, Unit};
-use c_statements::scope::{is_merge, refusal};
+use c_lang::{
+    ELEMENT_LIMIT, Func, GlobalVar, PARAMETER_LIMIT, Pos, Program, Proto, Refusal, Unit,
+    cell_limit, refusal,
+};
 use sqlite_items::Items;
 use std::alloc::{AllocError, Global};
+use std::marker::Model;
 
 /// The declarations so far, how many cells may still follow, and what is refused of globals,
 /// prototypes and functions.
 #[derive(Drop)]
 pub struct Parts {
-    pub globals: Items<GlobalVar>,
-    pub protos: Items<Proto>,
-    pub funcs: Items<Func>,
-    pub room: u32,
-    pub early_globals: Items<Refusal>,
-    pub early_protos: Items<Refusal>,
-    pub early_funcs: Items<Refusal>,
+    globals: Items<GlobalVar>,
+    protos: Items<Proto>,
+    funcs: Items<Func>,
+    room: u32,
+    early_globals: Items<Refusal>,
+    early_protos: Items<Refusal>,
+    early_funcs: Items<Refusal>,
+}
+
+impl Model for Parts {
+    ghost use Rattle.c_grammar.specs.Units.{Parts as Given};
+    ghost use Rattle.c_lang.specs.contracts.stmt.Stmt as stmt;
+    ghost use Rattle.std.specs.Coded.{codes};
+
+    ghost Value = { Given };
+
+    ghost coded = { Prim.hlevel (codes, stmt.the_row.coded) };
+
+    ghost view = { λ p. record {
+      globals = p.globals;
+      protos = p.protos;
+      funcs = p.funcs;
+      room = p.room;
+      early_globals = p.early_globals;
+      early_protos = p.early_protos;
+      early_funcs = p.early_funcs;
+    } };
 }
 
 impl Parts {
@@ -31,11 +54,18 @@ impl Parts {
             globals: Items::new(alloc),
             protos: Items::new(alloc),
             funcs: Items::new(alloc),
-            room: if is_merge(unit) { 3_145_728 } else { 1_048_576 },
+            room: cell_limit(unit),
             early_globals: Items::new(alloc),
             early_protos: Items::new(alloc),
             early_funcs: Items::new(alloc),
         }
+    }
+
+    /// How many cells may still follow.
+    pub fn room(&self) -> u32
+        ensures { result ≡ self.now.room }
+    {
+        self.room
     }
 
     /// With a global of so many cells.
@@ -120,8 +150,8 @@ pub fn arity_refusals(alloc: Global, pos: Pos, arity: u8) -> Result<Items<Refusa
     ensures { IfOk result (λ x. x ≡ scopes.arity_refusals pos arity) }
 {
     let mut early = Items::new(alloc);
-    if arity > 32 {
-        early.push(refusal(27, pos))?;
+    if arity > PARAMETER_LIMIT {
+        early.push(Refusal::at(refusal::PAST_LIMIT, pos))?;
     }
     Ok(early)
 }
@@ -139,10 +169,10 @@ pub fn array_refusals(
 {
     let mut early = Items::new(alloc);
     if count > size as usize {
-        early.push(refusal(10, pos))?;
+        early.push(Refusal::at(refusal::WRONG_KIND, pos))?;
     }
-    if size == 0 || size > 65_536 || size > room {
-        early.push(refusal(27, pos))?;
+    if size == 0 || size > ELEMENT_LIMIT || size > room {
+        early.push(Refusal::at(refusal::PAST_LIMIT, pos))?;
     }
     Ok(early)
 }

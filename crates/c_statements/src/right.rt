@@ -9,23 +9,11 @@ use crate::scope::is_merge;
 use c_expressions::expressions::expression;
 use c_expressions::front::{after, number_at, skip};
 use c_expressions::parse_error::ParseError;
+use c_grammar::{Call, Right};
 use c_lang::{Expr, Name, Unit};
 use c_lexer::{Token, Word, keyword, punctuator};
 use sqlite_items::Items;
 use std::alloc::Global;
-
-#[derive(Drop)]
-pub enum Call {
-    Function(Name, Items<Expr>),
-    Input,
-    Choice(u32),
-}
-
-#[derive(Drop)]
-pub enum Right {
-    Value(Expr),
-    Call(Call),
-}
 
 /// Arguments, and the height of the highest part of their call, whose name has height 1.
 #[derive(Drop)]

@@ -5,7 +5,7 @@ ghost use Rattle.std.specs.Prelude.{◌≡◌, ◌+◌, ◌^◌, ◌<◌, ◌≤
 ghost use Rattle.c_grammar.specs.Scopes as spec;
 ghost use Rattle.c_statements.specs.Code.Seen.{seen_scope};
 
-use c_lang::{Name, Pos, Refusal, Unit};
+use c_lang::{Name, PARAMETER_LIMIT, Pos, Refusal, Unit, refusal};
 use indexmap::IndexSet;
 use sqlite_items::Items;
 use std::alloc::{AllocError, Global};
@@ -64,24 +64,14 @@ pub fn refuse_arity(scope: Scope, pos: Pos, arity: u8) -> Result<Scope, AllocErr
     ensures count { IfOk result (λ x. x.count ≡ scope.count) }
 {
     let mut early = scope.early;
-    if arity > 32 {
-        early.push(refusal(27, pos))?;
+    if arity > PARAMETER_LIMIT {
+        early.push(Refusal::at(refusal::PAST_LIMIT, pos))?;
     }
     Ok(Scope {
         count: scope.count,
         declared: scope.declared,
         early,
     })
-}
-
-pub fn refusal(number: u8, pos: Pos) -> Refusal
-    ensures { result ≡ spec.refusal number pos }
-{
-    Refusal {
-        number,
-        pos,
-        name: None,
-    }
 }
 
 pub fn is_merge(unit: Unit) -> bool

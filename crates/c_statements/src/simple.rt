@@ -8,13 +8,14 @@ ghost use Rattle.c_expressions.specs.Code.Seen.{seen};
 ghost use Rattle.c_statements.specs.Code.Seen.{seen_scope, seen_called, seen_read, IsWithin};
 
 use crate::pointer::pointer_at;
-use crate::right::{Call, Called, Right, call_at, right_side};
+use crate::right::{Called, call_at, right_side};
 use crate::scope::{
     Scope, declare, is_client, is_declared, is_merge, one_more, refuse_arity, temporary,
 };
 use c_expressions::expressions::{Found, expression};
 use c_expressions::front::{after, name_at, number_at, skip};
 use c_expressions::parse_error::ParseError;
+use c_grammar::{Call, Right};
 use c_lang::{Dest, Expr, Kind, Name, Pos, Stmt, Unit};
 use c_lexer::{Token, Word, punctuator};
 use sqlite_items::Items;

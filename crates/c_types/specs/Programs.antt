@@ -2,6 +2,7 @@
 use Rattle.std.specs.Prelude.{ℕ, ◌-◌, nat_lt, Bool, true, false, not, ◌&&◌, ◌||◌, if◌then◌else◌, List, [], ◌∷◌, length, Option, Some, None, Result}
 use Rattle.std.specs.Option.{is_some}
 use Rattle.c_lang.specs.Names.{Bytes}
+use Rattle.c_lang.specs.Limits.{cell_limit}
 use Rattle.c_lang.specs.Kinds.{same_kinds, same_result}
 use Rattle.c_lang.specs.declared.unit.Unit.{Unit}
 use Rattle.c_lang.specs.declared.unit.Unit.TheVariants as unit
@@ -91,10 +92,6 @@ refusal_of_globals early outside seen room [] = None
 refusal_of_globals early outside seen room (g ∷ gs) =
     first (at_place (wrong_global early outside seen room g) g.pos)
     (refusal_of_globals early outside (with_global seen g) (room - cells_of g.shape) gs)
-
-abbrev pub cell_limit : Unit → ℕ
-cell_limit unit.Merge = 3145728
-cell_limit u = 1048576
 
 -- ---- prototypes
 

@@ -178,16 +178,6 @@ pub fn check_globals(
     Ok(())
 }
 
-/// How many cells a unit may have.
-pub fn cell_limit(unit: Unit) -> usize
-    ensures { result ≡ spec.cell_limit unit }
-{
-    match unit {
-        Unit::Merge => 3_145_728,
-        _ => 1_048_576,
-    }
-}
-
 fn wrong_match(function: Option<&Means>, p: &Proto) -> Option<u8>
     ensures { result ≡ spec.wrong_match (option_copied function.entry) p.now }
 {

@@ -4,14 +4,12 @@ ghost use Rattle.std.specs.Prelude.{◌≡◌, IfOk, OnOk, false};
 ghost use Rattle.c_types.specs.Checks.{Checked};
 ghost use Rattle.c_types.specs.Programs as spec;
 
-use crate::declarations::{
-    add_func, cell_limit, check_globals, check_protos, outside_of, wrong_again,
-};
+use crate::declarations::{add_func, check_globals, check_protos, outside_of, wrong_again};
 use crate::functions::{check_func, is_main};
 use crate::scope::Scope;
 use crate::simple::stop;
 use crate::symbols::Symbols;
-use c_lang::{Fail, Func, Kind, Name, Pos, Program, Refusal, Unit};
+use c_lang::{Fail, Func, Kind, Name, Pos, Program, Refusal, Unit, cell_limit};
 use sqlite_items::Items;
 use std::alloc::{AllocError, Global};
 
@@ -135,7 +133,14 @@ fn check_declarations(
 {
     let early = program.early.as_slice();
     let globals = program.globals.as_slice();
-    check_globals(alloc, early, outside, seen, cell_limit(unit), globals)?;
+    check_globals(
+        alloc,
+        early,
+        outside,
+        seen,
+        cell_limit(unit) as usize,
+        globals,
+    )?;
     check_protos(alloc, program.funcs.as_slice(), program.protos.as_slice())
 }
 

@@ -1,33 +1,13 @@
-//! The tool `dsu`: it merges two versions of a program and a transformer into one program, which
-//! runs as the old version does until it is updated.
+//! The program `dsu`: it runs `top_call::dsu` over the system's files and standard output, on the words after
+//! the program's name. Words that aren't text ask for nothing.
 #![tactic(auto)]
 
-mod merge;
-mod names;
-mod numbers;
-mod reading;
-mod reply;
-mod run;
-#[cfg(test)]
-mod run_tests;
-mod run_words;
-mod status;
-mod stop;
-#[cfg(test)]
-mod tests;
-mod top_call;
-mod typed_text;
-mod words;
-
 use outside::{DiskFiles, OutSink};
-pub use status::Status;
 use std::alloc::AllocError;
 use std::io::ErrorKind;
 use std::process::ExitCode;
-pub use top_call::dsu;
+use top_call::{Status, dsu};
 
-// Runs `dsu` over the system's files and standard output, on the words after the program's name.
-// Words that aren't text ask for nothing.
 fn main(rt: HostRuntime) -> ExitCode {
     let alloc = rt.alloc();
     let Ok(words) = take_words(&rt) else {

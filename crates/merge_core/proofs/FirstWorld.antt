@@ -3,7 +3,7 @@ use Rattle.std.proofs.Common.{◌≡◌, ℕ, ◌+◌, Bool, true, false, if◌t
 use Rattle.std.specs.Prelude.{⊤}
 use Rattle.std.specs.Str.{bytes_eq}
 use Rattle.std.proofs.lemmas.Slice.Eq.{bytes_eq-Decides}
-use Rattle.c_lang.specs.Names.{Bytes}
+use Rattle.c_lang.specs.Names.{Bytes, behind}
 use Rattle.c_lines.specs.Sources.{Source, Setter, Action, source_program, setter_program, global, function, main_body, setter_body, first_line}
 use Rattle.c_lang.specs.Units.{at}
 use Rattle.version_names.specs.Links.{part, both_alike, same_shape, same_head, cell_part, code_part}
@@ -13,7 +13,7 @@ use Rattle.version_names.specs.Home.{Home, Linked, same_home}
 use Rattle.version_names.specs.Home as home
 use Rattle.version_names.specs.Provenance.{Provenance}
 use Rattle.version_names.specs.Provenance as origin
-use Rattle.merge_core.specs.UpdatingRun.{World, behind, old_or_new, linked_by_prefix, cell_meaning, function_meaning}
+use Rattle.merge_core.specs.UpdatingRun.{World, old_or_new, linked_by_prefix, cell_meaning, function_meaning}
 use Rattle.c_lang.specs.declared.unit.Unit.TheVariants as unit
 use Rattle.c_lang.specs.declared.program.GlobalVar.{GlobalVar}
 use Rattle.c_lang.specs.declared.program.Func.{Func}

@@ -4,7 +4,7 @@ use Rattle.std.specs.List.{starts_with}
 use Rattle.std.specs.Str.{bytes_eq}
 use Rattle.std.proofs.lemmas.Slice.Eq.{bytes_eq-Decides}
 use Rattle.std.proofs.lemmas.List.{take-append-drop}
-use Rattle.c_lang.specs.Names.{Bytes, is_reserved}
+use Rattle.c_lang.specs.Names.{Bytes, is_reserved, behind}
 use Rattle.version_names.specs.Version.{Version}
 use Rattle.version_names.specs.Version as version
 use Rattle.version_names.specs.Home.{Home, Linked, same_home, same_linked}
@@ -13,7 +13,7 @@ use Rattle.version_names.specs.Provenance.{Provenance}
 use Rattle.version_names.specs.Provenance as origin
 use Rattle.version_names.specs.Links.{cell_part, code_part}
 use Rattle.c_lang.specs.Programs.{func_named}
-use Rattle.merge_core.specs.UpdatingRun.{World, behind, old_or_new, linked_by_prefix, client_funcs, cell_meaning, function_meaning}
+use Rattle.merge_core.specs.UpdatingRun.{World, old_or_new, linked_by_prefix, client_funcs, cell_meaning, function_meaning}
 use Rattle.merge_core.proofs.MergedStatements.{now_name, choice_name}
 use Rattle.merge_core.proofs.Relation.{Naming}
 

@@ -1,7 +1,6 @@
 -- The run of an old program that is updated once at most, at a point or at a client's force.
-use Rattle.std.specs.Prelude.{ℕ, ℤ, pos, Bool, not, ◌&&◌, if◌then◌else◌, nat_eq, List, [], ◌∷◌, length, drop, Option, Some, None, is_some, codes}
-use Rattle.std.specs.List.{starts_with}
-use Rattle.c_lang.specs.Names.{Bytes}
+use Rattle.std.specs.Prelude.{ℕ, ℤ, pos, Bool, not, ◌&&◌, if◌then◌else◌, List, [], ◌∷◌, Option, Some, None, is_some, codes}
+use Rattle.c_lang.specs.Names.{Bytes, behind}
 use Rattle.c_lang.specs.Values.{Value, Num, is_zero}
 use Rattle.plain_run.specs.Moves.{Move, Goes, Asks, events_of, Shows}
 use Rattle.plain_run.specs.Steps.{Frame, Config, Live, Access, Does, Special, frame_of, before_rest, act, step_with}
@@ -47,10 +46,7 @@ UpdFrame = Frame Linked Provenance
 abbrev pub UpdConfig : Type 0
 UpdConfig = Config Linked State Provenance
 
--- what stands behind a prefix
-abbrev pub behind : Bytes → Bytes → Option Bytes
-behind prefix x = if starts_with nat_eq x prefix then Some (drop (length prefix) x) else None
-
+-- the name behind the prefix of the old or of the new version, where that version alone has it
 abbrev pub old_or_new : (Version → Bytes → Home) → Bytes → Option Bytes → Option Bytes → Linked
 old_or_new home x (Some y) new = if same_home (home version.Old y) Old then (Old, y) else (Unlinked, x)
 old_or_new home x None (Some y) = if same_home (home version.New y) New then (New, y) else (Unlinked, x)

@@ -5,8 +5,8 @@ ghost use Rattle.merge_core.specs.FirstMerge.{AreFirst, IsMergeOf, ShowsTheSame}
 ghost use Rattle.merge_core.specs.Code.MergedProgram.{HasFirstForm, IsFirstStatement, IsWhole, main_of, merged_function, merged_functions, merged_global, merged_globals, merged_program, merged_prototypes, shared_of};
 
 use crate::merged_statement::merged_body;
-use c_lang::layout::{both_name, function, prototype, returned_call, wrapper_body};
 use c_lang::{Func, GlobalVar, Name, Pos, Program, Proto, Shape, Stmt, Unit};
+use c_lines::parts::{both_name, function, prototype, returned_call, wrapper_body};
 use sqlite_items::Items;
 use std::alloc::{AllocError, Global};
 

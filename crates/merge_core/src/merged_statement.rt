@@ -3,8 +3,8 @@
 ghost use Rattle.std.specs.Prelude.{◌≡◌, IfOk, All, map};
 ghost use Rattle.merge_core.specs.Code.MergedProgram.{IsFirstStatement, merged_point, merged_statement};
 
-use c_lang::layout::{both_name, expansion};
 use c_lang::{Dest, Expr, Name, Pos, Stmt, Unit};
+use c_lines::parts::{both_name, expansion};
 use sqlite_items::Items;
 use std::alloc::{AllocError, Global};
 

@@ -8,14 +8,15 @@ ghost use Rattle.c_types.specs.Checks.{Checked};
 ghost use Rattle.c_types.specs.Programs as programs;
 ghost use Rattle.state_xform.specs.Refusals as spec;
 ghost use Rattle.state_xform.specs.Transformers as transformer;
+ghost use Rattle.c_lang.specs.Limits.{cell_limit};
 ghost use Rattle.state_xform.specs.Visible as seen;
 
 use crate::covering::check_coverage;
 use crate::functions::check_funcs;
 use crate::visible::visible;
-use c_lang::{Fail, Func, GlobalVar, Name, Pos, Program, Refusal, Unit};
+use c_lang::{Fail, Func, GlobalVar, Name, Pos, Program, Refusal, Unit, cell_limit};
 use c_types::Symbols;
-use c_types::declarations::{cell_limit, check_globals, check_protos};
+use c_types::declarations::{check_globals, check_protos};
 use c_types::means::smaller;
 use c_types::programs::{has_none, stop_early};
 use c_types::simple::stop;
@@ -31,10 +32,10 @@ fn wrong_alone(
     outside: &Symbols,
     g: &GlobalVar,
 ) -> Result<Option<u8>, AllocError>
-    ensures { IfOk result (λ number. number ≡ programs.wrong_global early.now outside.now [] (programs.cell_limit Xform) g.now) }
+    ensures { IfOk result (λ number. number ≡ programs.wrong_global early.now outside.now [] (cell_limit Xform) g.now) }
 {
     let mut before = Symbols::new(alloc);
-    let room = cell_limit(Unit::Xform);
+    let room = cell_limit(Unit::Xform) as usize;
     match check_globals(alloc, early, outside, &mut before, room, slice::from_ref(g)) {
         Ok(()) => Ok(None),
         Err(Fail::Refused(why)) => Ok(Some(why.number)),

@@ -5,7 +5,7 @@ ghost use Rattle.state_xform.specs.Visible as spec;
 
 use c_lang::{Func, GlobalVar, Name, Program};
 use c_types::declarations::{means_of_shape, outside_of};
-use c_types::functions::{kinds_of, arity_as_value};
+use c_types::functions::{arity_as_value, kinds_of};
 use c_types::{Means, Symbols};
 use std::alloc::{AllocError, Global};
 use version_names::{Links, Origin, Part, Sort2, Version, merged_name};

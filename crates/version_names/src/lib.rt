@@ -8,6 +8,9 @@ mod merged;
 mod part;
 mod status;
 mod table;
+#[cfg(test)]
+mod tests;
+
 pub use links::{Links, link, parts_are_linked};
 pub use merged::{merged_name, names_are_apart};
 pub use part::{Origin, Part, Sort2, Version};

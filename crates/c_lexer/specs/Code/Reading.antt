@@ -12,7 +12,8 @@ use Rattle.c_grammar.specs.Bytes.{is_white, is_space, is_blank, is_in_line, is_i
 use Rattle.c_grammar.specs.Words.{keyword_number, is_refused}
 use Rattle.c_grammar.specs.Punctuators.{punctuator_number}
 use Rattle.c_grammar.specs.Pieces.{begins_comment, fault_number, quoted}
-use Rattle.c_grammar.specs.Lexed.{after_byte, turned, token, first_place, refusal}
+use Rattle.c_grammar.specs.Lexed.{after_byte, turned, token, first_place}
+use Rattle.c_lang.specs.Refusals.{refused_at}
 use Rattle.c_lexer.specs.declared.bytes.Class.{Class}
 use Rattle.c_lexer.specs.declared.bytes.Class.TheVariants as class
 use Rattle.c_grammar.specs.declared.token.Token.{Token}
@@ -199,7 +200,7 @@ abbrev pub kept : Place → Cut → Outcome
 kept p (piece.Space, size) = Ok []
 kept p (piece.Position given, size) = Ok []
 kept p (piece.Token what, size) = Ok (token p what size ∷ [])
-kept p (piece.Fault fault, size) = Err (refusal (fault_number fault) p.pos)
+kept p (piece.Fault fault, size) = Err (refused_at (fault_number fault) p.pos)
 
 abbrev pub with_front : List Token → Outcome → Outcome
 with_front front (Ok tokens) = Ok (front ++ tokens)

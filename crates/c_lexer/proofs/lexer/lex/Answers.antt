@@ -1,7 +1,7 @@
 use Rattle.std.proofs.Common.{◌<◌, ◌≤◌, length, arith}
 use Rattle.c_lang.specs.Limits.{size_limit}
 use Rattle.c_grammar.specs.Lexed.{too_long}
-use Rattle.c_lexer.proofs.LexLaws.{answers, only, first, spans_of}
+use Rattle.c_lexer.proofs.LexLaws.{answers, given_by, only, first, spans_of}
 use Rattle.c_lexer.proofs.lexer.lex.Goals as goal
 
 pub returns-then-bytes-limit_of-clause-answer : goal.returns-then-bytes-limit_of-clause-answer
@@ -24,3 +24,8 @@ returns-clause-first c =
 
 pub returns-clause-spans : goal.returns-clause-spans
 returns-clause-spans c = spans_of c.args.unit c.args.bytes.now c.cut.result c.cut.ensures
+
+pub returns-clause-given : goal.returns-clause-given
+returns-clause-given c =
+    let within : length c.args.bytes.now ≤ size_limit c.args.unit = omega arith in
+    given_by c.args.unit c.args.bytes.now c.cut.result within c.cut.ensures

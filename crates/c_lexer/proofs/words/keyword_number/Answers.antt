@@ -25,8 +25,8 @@ loop-low-preserved c =
       within = c.loop-low.invariant.within;
       between = λ k kept is.
           let side = c.loop-low.invariant.between k kept is in
-          let behind = stands_behind c.args.word.now k middle kept within is (subst (λ (other : Bytes). slice_cmp nat_cmp c.args.word.now other ≡ Greater) c.entry_at.ensures (sym c.in-Greater.ensures)) in
-          (omega (arith, behind), side.1);
+          let place_behind = stands_behind c.args.word.now k middle kept within is (subst (λ (other : Bytes). slice_cmp nat_cmp c.args.word.now other ≡ Greater) c.entry_at.ensures (sym c.in-Greater.ensures)) in
+          (omega (arith, place_behind), side.1);
     }
 
 pub returns-in-Equal : goal.returns-in-Equal

@@ -1,0 +1,110 @@
+-- What follows from the outcome of `merge` where files and sink tell their bytes.
+use Rattle.std.proofs.Common.{◌≡◌, ◌∙◌, ◌≤◌, ◌+◌, List, [], ◌∷◌, ◌++◌, length, take, Option, None, Some, length-take, sym, ap, refl, arith, subst, inl, inr}
+use Rattle.std.proofs.lemmas.List.{take_all}
+use Rattle.std.specs.Prelude.{◌⊎◌}
+use Rattle.std.specs.Io.KnownBytes.{Appends}
+use Rattle.c_lang.specs.Limits.{size_limit}
+use Rattle.c_lang.specs.declared.unit.Unit.{Unit}
+use Rattle.c_lang.specs.declared.unit.Unit.TheVariants.{Old, New, Xform}
+use Rattle.c_lang.specs.declared.refusal.Refusal.{Refusal}
+use Rattle.top_call.specs.Words.{Text, UpdateFiles, Request, Merge}
+use Rattle.top_call.specs.Replies.{Reply}
+use Rattle.top_call.specs.Held.{IsHeld}
+use Rattle.top_call.specs.Conditions.{Condition, AllHold, IsFirstRefusal}
+use Rattle.top_call.specs.Merge.{Texts, AreHeld, MergeAllows, conditions}
+use Rattle.top_call.specs.MergedText.{IsMergedText}
+use Rattle.top_call.specs.Around.{Around, Put}
+use Rattle.top_call.specs.Outcome.{Outcome}
+use Rattle.top_call.specs.Headline.{Hold, HadNoFault, WritesMergedText, MergesWhatIsAccepted}
+use Rattle.top_call.specs.declared.status.Status.{Status}
+use Rattle.top_call.specs.declared.status.Status.TheVariants.{Done, NotProved, Refused, Usage, ReadFailed, WriteFailed, NoMemory, Deep}
+
+-- what was read, where what is held is known
+read-is : (held : Text → Option Text) (unit : Unit) (name text all : Text) → IsHeld held unit name text → held name ≡ Some all → text ≡ take (size_limit unit + 1) all
+read-is held unit name text all is_held known = rw known at is_held
+
+-- A text within the limit was read whole.
+pub read-whole : (held : Text → Option Text) (unit : Unit) (name text all : Text) → IsHeld held unit name text → held name ≡ Some all
+    → length text ≤ size_limit unit → text ≡ all
+read-whole held unit name text all is_held known small =
+    let is = read-is held unit name text all is_held known in
+    is ∙ take_all (size_limit unit + 1) all (omega (arith, ap length is, length-take (size_limit unit + 1) all))
+
+pub read-accepted : (held : Text → Option Text) (unit : Unit) (name text all : Text) → IsHeld held unit name text → held name ≡ Some all
+    → length all ≤ size_limit unit → text ≡ all
+read-accepted held unit name text all is_held known small =
+    read-is held unit name text all is_held known ∙ take_all (size_limit unit + 1) all (omega arith)
+
+same-texts : (a b : Texts) → a.old ≡ b.old → a.new ≡ b.new → a.xform ≡ b.xform → a ≡ b
+same-texts a b old new xform =
+    ap (λ (t : Text). record a { old = t }) old
+    ∙ ap (λ (t : Text). record b { new = t; xform = a.xform }) new
+    ∙ ap (λ (t : Text). record b { xform = t }) xform
+
+pub appended : (before after : Option Text) (written text : Text) → before ≡ Some written → Appends before after text → after ≡ Some (written ++ text)
+appended None after written text is put = absurd (cc)
+appended (Some old) None written text is put = absurd put
+appended (Some old) (Some new) written text is put =
+    ap (λ (t : Text). Some t) (put ∙ ap (λ (t : Text). t ++ text) (let same : old ≡ written = cc in same))
+
+module _ (around : Around) (update : UpdateFiles) (texts : Texts) (hold : Hold around update texts) where
+  -- the texts that were read, where they were accepted
+  accepted-whole : (read : Texts) → AreHeld around.held update read → AllHold (conditions read) → read ≡ texts
+  accepted-whole read held (old, (new, (xform, _))) =
+      same-texts read texts (read-whole around.held Old update.old read.old texts.old held.old hold.old old)
+      (read-whole around.held New update.new read.new texts.new held.new hold.new new)
+      (read-whole around.held Xform update.xform read.xform texts.xform held.xform hold.xform xform)
+
+  whole-if-accepted : (read : Texts) → AreHeld around.held update read → AllHold (conditions texts) → texts ≡ read
+  whole-if-accepted read held (old, (new, (xform, _))) =
+      sym (same-texts read texts (read-accepted around.held Old update.old read.old texts.old held.old hold.old old)
+      (read-accepted around.held New update.new read.new texts.new held.new hold.new new)
+      (read-accepted around.held Xform update.xform read.xform texts.xform held.xform hold.xform xform))
+
+  written-text : (written : Text) → around.written_before ≡ Some written
+      → (reply : Reply) → MergeAllows around.held update reply → reply.status ≡ Done → Put around reply.text
+      → (text : Text) × (around.written_after ≡ Some (written ++ text)) × IsMergedText texts.old texts.new texts.xform text
+  written-text written before reply (read, held, merges) is_done put = elim merges [
+    | inl (refusal, first, is) ↦ let never : Refused ≡ Done = sym (ap (λ (r : Reply). r.status) is) ∙ is_done in absurd (cc)
+    | inr (text, (accepted, merged), is) ↦ (
+      reply.text,
+      appended around.written_before around.written_after written reply.text before put,
+      subst (λ (t : Text). IsMergedText texts.old texts.new texts.xform t) (sym (ap (λ (r : Reply). r.text) is))
+          (subst (λ (t : Texts). IsMergedText t.old t.new t.xform text) (accepted-whole read held accepted) merged),
+    )
+  ]
+
+  no-refusal : (conditions : List Condition) (refusal : Refusal) → AllHold conditions → IsFirstRefusal conditions refusal → ⊥
+  no-refusal [] refusal hold first = first
+  no-refusal (condition ∷ conditions) refusal hold first = elim first [
+    | inl fails ↦ fails.0 hold.0
+    | inr later ↦ no-refusal conditions refusal hold.1 later.1
+  ]
+
+  reply-is-done : (reply : Reply) → MergeAllows around.held update reply → AllHold (conditions texts) → reply.status ≡ Done
+  reply-is-done reply (read, held, merges) accepted = elim merges [
+    | inl (refusal, first, is) ↦
+        absurd (no-refusal (conditions read) refusal (subst (λ (t : Texts). AllHold (conditions t)) (whole-if-accepted read held accepted) accepted) first)
+    | inr (text, _, is) ↦ ap (λ (r : Reply). r.status) is
+  ]
+
+  accepted-merges : (status : Status) → Outcome around (Some (Merge update)) status → AllHold (conditions texts) → HadNoFault around
+      → (status ≡ Done) ⊎ (status ≡ NoMemory)
+  accepted-merges Done outcome accepted fine = inl refl
+  accepted-merges NotProved (reply, allows, is, put) accepted fine = inl (sym is ∙ reply-is-done reply allows accepted)
+  accepted-merges Refused (reply, allows, is, put) accepted fine = inl (sym is ∙ reply-is-done reply allows accepted)
+  accepted-merges Usage outcome accepted fine = let none = outcome.0 in absurd (cc)
+  accepted-merges ReadFailed outcome accepted fine = absurd (fine.reads outcome.0)
+  accepted-merges WriteFailed outcome accepted fine = absurd (fine.writes outcome.0)
+  accepted-merges NoMemory outcome accepted fine = inr refl
+  accepted-merges Deep outcome accepted fine = absurd outcome.1
+
+pub writes-merged-text : (around : Around) (request : Option Request) (status : Status) → Outcome around request status → WritesMergedText around request status
+writes-merged-text around request status outcome = λ update texts written asked hold before is_done.
+    let here : Outcome around request Done = subst (λ (s : Status). Outcome around request s) is_done outcome in
+    let there : Outcome around (Some (Merge update)) Done = subst (λ (r : Option Request). Outcome around r Done) asked here in
+    written-text around update texts hold written before there.0 there.1 there.2 there.3
+
+pub merges-what-is-accepted : (around : Around) (request : Option Request) (status : Status) → Outcome around request status → MergesWhatIsAccepted around request status
+merges-what-is-accepted around request status outcome = λ update texts asked hold accepted fine.
+    accepted-merges around update texts hold status (subst (λ (r : Option Request). Outcome around r status) asked outcome) accepted fine

@@ -1,0 +1,54 @@
+-- What `merge` and `run` owe where files and sink tell their bytes, as those in memory do. For the operating
+-- system's files and standard output that is trusted.
+use Rattle.std.specs.Prelude.{◌≡◌, ◌++◌, Option, Some, ◌⊎◌}
+use Rattle.outside.specs.Counts.{Rose}
+use Rattle.c_lang.specs.declared.unit.Unit.TheVariants as unit
+use Rattle.c_lang.specs.declared.program.Program.{Program}
+use Rattle.top_call.specs.Words.{Text, UpdateFiles, RunRequest, Request, Merge, Run}
+use Rattle.top_call.specs.Conditions.{AllHold}
+use Rattle.top_call.specs.Merge.{Texts, conditions}
+use Rattle.top_call.specs.MergedText.{IsMergedText}
+use Rattle.top_call.specs.TypedText.{IsTypedText}
+use Rattle.top_call.specs.Run.{IsRunOf, GoesTooDeep}
+use Rattle.top_call.specs.Around.{Around}
+use Rattle.top_call.specs.declared.status.Status.{Status}
+use Rattle.top_call.specs.declared.status.Status.TheVariants.{Done, NoMemory, Deep}
+
+-- The files hold these texts under the names of the request.
+pub record Hold (around : Around) (update : UpdateFiles) (texts : Texts) : Type 0 where
+  pub old : around.held update.old ≡ Some texts.old
+  pub new : around.held update.new ≡ Some texts.new
+  pub xform : around.held update.xform ≡ Some texts.xform
+
+-- With `Done` the sink gained the merged text of what the files hold.
+abbrev pub WritesMergedText : Around → Option Request → Status → Type 0
+WritesMergedText around request status =
+    (update : UpdateFiles) (texts : Texts) (written : Text)
+    → request ≡ Some (Merge update) → Hold around update texts → around.written_before ≡ Some written → status ≡ Done
+    → (text : Text) × (around.written_after ≡ Some (written ++ text)) × IsMergedText texts.old texts.new texts.xform text
+
+-- Neither files nor sink had a fault.
+pub record HadNoFault (around : Around) : Type 0 where
+  pub reads : Rose around.read_faults_before around.read_faults_after → ⊥
+  pub writes : Rose around.write_faults_before around.write_faults_after → ⊥
+
+-- Texts that meet all conditions are merged, unless there was a fault or memory was wanted.
+abbrev pub MergesWhatIsAccepted : Around → Option Request → Status → Type 0
+MergesWhatIsAccepted around request status =
+    (update : UpdateFiles) (texts : Texts)
+    → request ≡ Some (Merge update) → Hold around update texts → AllHold (conditions texts) → HadNoFault around
+    → (status ≡ Done) ⊎ (status ≡ NoMemory)
+
+-- With `Done` the sink gained the lines of the run of the text that the file holds.
+abbrev pub WritesEvents : Around → Option Request → Status → Type 0
+WritesEvents around request status =
+    (run : RunRequest) (text written : Text)
+    → request ≡ Some (Run run) → around.held run.file ≡ Some text → around.written_before ≡ Some written → status ≡ Done
+    → (lines : Text) × (around.written_after ≡ Some (written ++ lines)) × IsRunOf run text lines
+
+-- A text that is a typed program is run, unless there was a fault, memory was wanted, or the run goes too deep.
+abbrev pub RunsWhatIsAccepted : Around → Option Request → Status → Type 0
+RunsWhatIsAccepted around request status =
+    (run : RunRequest) (text : Text) (program : Program)
+    → request ≡ Some (Run run) → around.held run.file ≡ Some text → IsTypedText unit.Merge 72 text program → HadNoFault around
+    → (status ≡ Done) ⊎ ((status ≡ NoMemory) ⊎ ((status ≡ Deep) × GoesTooDeep run text))

@@ -1,0 +1,56 @@
+-- The command `run`: what it reads, what it refuses, and what it puts.
+use Rattle.std.specs.Prelude.{◌≡◌, List, [], ◌++◌, ◌⊎◌, Option, codes}
+use Rattle.std.specs.List.{flat_map}
+use Rattle.c_lang.specs.Events.{event_text}
+use Rattle.c_lang.specs.declared.event.Event.{Event}
+use Rattle.c_lang.specs.declared.unit.Unit.TheVariants.{Merge}
+use Rattle.c_lang.specs.declared.refusal.Refusal.{Refusal}
+use Rattle.c_lang.specs.declared.program.Program.{Program}
+use Rattle.plain_run.specs.PlainRun.{events}
+use Rattle.run_replay.specs.declared.replay.Close.{Close}
+use Rattle.run_replay.specs.declared.replay.Close.TheVariants.{Ended, Faulted, Waiting, Running}
+use Rattle.run_replay.specs.Replays.{IsPlainClose, StaysShallow, GetsDeep}
+use Rattle.top_call.specs.Words.{Text, RunRequest}
+use Rattle.top_call.specs.Replies.{Reply, done, refused}
+use Rattle.top_call.specs.Held.{IsHeld}
+use Rattle.top_call.specs.TypedText.{HasProgram, IsRefused}
+
+abbrev pub event_line : Event → Text
+event_line event = event_text event ++ codes "\n"
+
+-- a line where the run waits or would go on
+abbrev pub close_line : Close → Text
+close_line Ended = []
+close_line Faulted = []
+close_line Waiting = codes "waiting\n"
+close_line Running = codes "running\n"
+
+abbrev pub run_lines : List Event → Close → Text
+run_lines shown close = flat_map event_line shown ++ close_line close
+
+-- The text is a typed program. The lines are those of the events of its run, and of how that stands then;
+-- no step made one frame more than 10,000.
+pub record IsRunOf (run : RunRequest) (text lines : Text) : Type 0 where
+  pub program : Program
+  pub close : Close
+  pub has_program : HasProgram Merge 72 text program
+  pub shallow : StaysShallow program run.answers run.steps
+  pub closes : IsPlainClose program run.answers run.steps close
+  pub are_lines : lines ≡ run_lines (events program run.answers run.steps) close
+
+-- The text is refused, or its run is shown.
+abbrev pub Runs : RunRequest → Text → Reply → Type 0
+Runs run text reply =
+    ((refusal : Refusal) × IsRefused Merge 72 text refusal × (reply ≡ refused refusal))
+    ⊎ ((lines : Text) × IsRunOf run text lines × (reply ≡ done lines))
+
+-- The text is a typed program, and a step of its run makes one frame more than 10,000.
+abbrev pub GoesTooDeep : RunRequest → Text → Type 0
+GoesTooDeep run text = (program : Program) × HasProgram Merge 72 text program × GetsDeep program run.answers run.steps
+
+-- what `run` may reply over the held files
+abbrev pub RunAllows : (Text → Option Text) → RunRequest → Reply → Type 0
+RunAllows held run reply = (text : Text) × IsHeld held Merge run.file text × Runs run text reply
+
+abbrev pub RunGoesDeep : (Text → Option Text) → RunRequest → Type 0
+RunGoesDeep held run = (text : Text) × IsHeld held Merge run.file text × GoesTooDeep run text

@@ -1,0 +1,95 @@
+-- What the words after the program's name ask for.
+use Rattle.std.specs.Prelude.{ℕ, ℤ, Bool, not, ◌||◌, if◌then◌else◌, List, [], ◌∷◌, ◌++◌, Option, Some, None, nat_eq, bytes_eq, option_map, codes}
+use Rattle.std.specs.List.{list_any, list_all, starts_with}
+use Rattle.c_lang.specs.Names.{behind}
+use Rattle.top_call.specs.Numbers.{answers_of, steps_of}
+
+abbrev pub Text : Type 0
+Text = List ℕ
+
+-- the names of the files of an update
+pub record UpdateFiles : Type 0 where
+  pub old : Text
+  pub new : Text
+  pub xform : Text
+
+-- the file of a merged text, the answers that its run gets, and how many steps it makes
+pub record RunRequest : Type 0 where
+  pub file : Text
+  pub answers : List ℤ
+  pub steps : ℕ
+
+pub data Request : Type 0 where
+  Merge : UpdateFiles → Request
+  Run : RunRequest → Request
+
+-- a word that begins with `-`
+abbrev pub is_option : Text → Bool
+is_option word = starts_with nat_eq word (codes "-")
+
+abbrev pub three_files : List Text → Option UpdateFiles
+three_files (old ∷ new ∷ xform ∷ []) = Some (record { old = old; new = new; xform = xform })
+three_files _ = None
+
+-- the files of an update; there are no options yet
+abbrev pub update_files_of : List Text → Option UpdateFiles
+update_files_of words = if list_any is_option words then None else three_files words
+
+abbrev pub merge_of : List Text → Option Request
+merge_of words = option_map Merge (update_files_of words)
+
+-- ---- the words of `run`
+
+abbrev pub with_chosen : Option Text → List Text → List Text
+with_chosen None texts = texts
+with_chosen (Some text) texts = text ∷ texts
+
+-- what the words give, of those that give something
+abbrev pub chosen : (Text → Option Text) → List Text → List Text
+chosen gives [] = []
+chosen gives (word ∷ words) = with_chosen (gives word) (chosen gives words)
+
+abbrev pub added : List Text → Option Text → List Text
+added texts None = texts
+added texts (Some text) = texts ++ text ∷ []
+
+-- a word that is no option
+abbrev pub file_in : Text → Option Text
+file_in word = if is_option word then None else Some word
+
+-- what follows the option's name, where the word begins with it
+abbrev pub answers_name : Text
+answers_name = codes "--answers="
+
+abbrev pub steps_name : Text
+steps_name = codes "--steps="
+
+abbrev pub is_run_word : Text → Bool
+is_run_word word = not (is_option word) || (starts_with nat_eq word answers_name || starts_with nat_eq word steps_name)
+
+-- an option's value, or what stands where it isn't given; none where it is given twice
+abbrev pub option_value : {X : Type 0} → (Text → Option X) → X → List Text → Option X
+option_value read default [] = Some default
+option_value read default (text ∷ []) = read text
+option_value read default (text ∷ other ∷ texts) = None
+
+abbrev pub run_with : List Text → Option (List ℤ) → Option ℕ → Option RunRequest
+run_with (file ∷ []) (Some answers) (Some steps) = Some (record { file = file; answers = answers; steps = steps })
+run_with files answers steps = None
+
+-- one file, and each option at most once, in any order
+abbrev pub run_of : List Text → Option RunRequest
+run_of words =
+    if list_all is_run_word words
+    then
+    run_with (chosen file_in words) (option_value answers_of [] (chosen (behind answers_name) words))
+    (option_value steps_of 1000000 (chosen (behind steps_name) words))
+    else None
+
+-- the command, and its files and options
+abbrev pub request_of : List Text → Option Request
+request_of [] = None
+request_of (command ∷ words) =
+    if bytes_eq command (codes "merge") then merge_of words
+    else if bytes_eq command (codes "run") then option_map Run (run_of words)
+    else None

@@ -1,0 +1,88 @@
+//! The command `run`.
+
+ghost use Rattle.std.specs.Prelude.{◌≡◌, ◌++◌, [], ◌∷◌, IfOk, IsErrOf};
+ghost use Rattle.c_lang.specs.declared.unit.Unit.TheVariants.{Merge};
+ghost use Rattle.top_call.specs.Held.{HasReadCause};
+ghost use Rattle.top_call.specs.Words.{Text};
+ghost use Rattle.top_call.specs.Run.{GoesTooDeep, RunAllows, RunGoesDeep, Runs, close_line, run_lines};
+ghost use Rattle.top_call.specs.TypedText.{HasProgram};
+ghost use Rattle.top_call.specs.Seen.{seen_reply, seen_run};
+
+use crate::reading::read_text;
+use crate::reply::{Reply, refuse};
+use crate::run_words::RunRequest;
+use crate::status::Status;
+use crate::stop::Stop;
+use crate::typed_text::typed_text;
+use c_lang::{Fail, Unit};
+use c_types::Typed;
+use outside::Files;
+use plain_run::RunError;
+use run_replay::{Close, Replay, replay_plain};
+use std::alloc::{AllocError, Global};
+use std::fmt::Write;
+
+// The most brackets that may be open in a merged text, and the most height that it may have.
+const DEEP: u32 = 72;
+
+/// The reply of `run` to the text of the named file. Beside a failed read and want of memory the
+/// error is `Stop::Deep`, exactly where a step makes one frame more than 10,000.
+pub(crate) fn run_reply<F: Files>(
+    alloc: Global,
+    run: &RunRequest<'_>,
+    files: &mut F,
+) -> Result<Reply, Stop>
+    ensures reply { IfOk result (λ reply. RunAllows (F.held files.old) (seen_run run.now) (seen_reply reply)) }
+    ensures deep { IsErrOf result Stop.Deep → RunGoesDeep (F.held files.old) (seen_run run.now) }
+    ensures cause { HasReadCause (run.now.file.now ∷ [])
+        (F.faults files.old) (F.faults files.new) (F.failed files.new) result }
+{
+    let text = read_text(alloc, Unit::Merge, run.file, files)?;
+    Ok(reply_to_text(alloc, run, &text)?)
+}
+
+fn reply_to_text(alloc: Global, run: &RunRequest<'_>, text: &[u8]) -> Result<Reply, RunError>
+    ensures reply { IfOk result (λ reply. Runs (seen_run run.now) text.now (seen_reply reply)) }
+    ensures deep { IsErrOf result RunError.Deep → GoesTooDeep (seen_run run.now) text.now }
+{
+    match typed_text(alloc, Unit::Merge, DEEP, text) {
+        Ok(typed) => reply_of_run(alloc, run, &typed),
+        Err(Fail::Refused(refusal)) => Ok(refuse(alloc, &refusal)?),
+        Err(Fail::NoMemory) => Err(RunError::NoMemory),
+    }
+}
+
+fn reply_of_run(alloc: Global, run: &RunRequest<'_>, typed: &Typed) -> Result<Reply, RunError>
+    ensures reply { (text : Text) → HasProgram Merge 72 text typed.now →
+        IfOk result (λ reply. Runs (seen_run run.now) text (seen_reply reply)) }
+    ensures deep { (text : Text) → HasProgram Merge 72 text typed.now →
+        IsErrOf result RunError.Deep → GoesTooDeep (seen_run run.now) text }
+{
+    let replay = replay_plain(alloc, typed, &run.answers, run.steps)?;
+    Ok(Reply {
+        status: Status::Done,
+        text: replay_text(alloc, &replay)?,
+    })
+}
+
+fn close_text(close: Close) -> &'static str
+    ensures { result.now ≡ close_line close }
+{
+    match close {
+        Close::Ended | Close::Faulted => "",
+        Close::Waiting => "waiting\n",
+        Close::Running => "running\n",
+    }
+}
+
+// A line for each event, and one for a run that waits or would go on.
+fn replay_text(alloc: Global, replay: &Replay) -> Result<Vec<u8>, AllocError>
+    ensures { IfOk result (λ text. text.items ≡ run_lines replay.now.events.items replay.now.close) }
+{
+    let mut text = String::new(alloc);
+    for event in &replay.events {
+        writeln!(text, "{event}")?;
+    }
+    text.push_str(close_text(replay.close))?;
+    Ok(text.into_bytes())
+}
