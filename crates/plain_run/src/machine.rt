@@ -314,8 +314,8 @@ impl<'p> Machine<'p> {
     /// The machine at the start of the program's run: the globals have their initial values, and
     /// `main` is called. The only error is want of memory.
     pub fn new(alloc: Global, program: &'p Typed) -> Result<Machine<'p>, AllocError>
-        ensures config { IfOk result (λ machine. config_of machine ≡ start program.entry.now) }
-        ensures program { IfOk result (λ machine. program_of machine ≡ program.entry.now) }
+        ensures config { IfOk result (λ machine. config_of machine ≡ start program.entry.now.program) }
+        ensures program { IfOk result (λ machine. program_of machine ≡ program.entry.now.program) }
     {
         Machine::at_start(alloc, program.program())
     }
