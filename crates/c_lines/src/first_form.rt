@@ -15,7 +15,7 @@ use crate::layout_program::layout_program;
 use crate::source::{Action, Setter, Source, read_setter, read_source};
 use crate::source_program::{setter_program, source_program};
 use crate::stop::Stop;
-use c_lang::{Fail, Pos, Program, Refusal, Unit};
+use c_lang::{Fail, Pos, Program, Refusal, Unit, refusal};
 use std::alloc::Global;
 
 /// The lines that `#line` can give.
@@ -119,11 +119,10 @@ pub fn parse_lines(alloc: Global, unit: Unit, bytes: &[u8]) -> Result<Program, F
     match read_program(alloc, unit, bytes) {
         Ok(program) => Ok(program),
         Err(Stop::NoMemory) => Err(Fail::NoMemory),
-        Err(Stop::OtherForm) => Err(Fail::Refused(Refusal {
-            number: 29,
-            pos: Pos { unit, line: 1 },
-            name: None,
-        })),
+        Err(Stop::OtherForm) => Err(Fail::Refused(Refusal::at(
+            refusal::NO_FIRST_FORM,
+            Pos { unit, line: 1 },
+        ))),
     }
 }
 

@@ -42,9 +42,9 @@ pub locals_leave : (es : Entries) (ss : Statements) → take (length es) (with_l
 locals_leave es ss = let b = locals_behind es ss in rw b.is (take-append_seam es b.rest)
 
 -- what is left of the scope once the block's names are gone
-pub block_left : (s t : Scope) (ss : Statements) (base mark : ℕ) (locals ahead : Entries)
+pub block_left : (s t : Scope) (ss : Statements) (base mark : ℕ) (locals told ahead : Entries)
     → base ≡ length s.locals → mark ≡ length s.ahead → t ≡ scope_after_all (entered s ss) ss
-    → locals ≡ take base t.locals → ahead ≡ take mark t.ahead
-    → ◌≡◌ {A = Scope} (record { outside = t.outside; locals = locals; told = t.told; ahead = ahead; gives = t.gives; xform = t.xform }) (after_block s ss)
-block_left s t ss base mark locals ahead at_base at_mark after cut cut_ahead =
-    rw (cut, cut_ahead, after, at_base, at_mark, locals_leave s.locals ss, locals_leave s.ahead ss) refl
+    → told ≡ with_locals t.told ss → locals ≡ take base t.locals → ahead ≡ take mark t.ahead
+    → ◌≡◌ {A = Scope} (record { outside = t.outside; locals = locals; told = told; ahead = ahead; gives = t.gives; xform = t.xform }) (after_block s ss)
+block_left s t ss base mark locals told ahead at_base at_mark after told_more cut cut_ahead =
+    rw (cut, cut_ahead, told_more, after, at_base, at_mark, locals_leave s.locals ss, locals_leave s.ahead ss) refl

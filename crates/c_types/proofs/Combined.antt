@@ -25,6 +25,24 @@ both_none (Some m) (Some n) h = absurd (never (nat_lt n m) h) where
 pub smaller_none : (a b : Option ℕ) → a ≡ None → b ≡ None → smaller a b ≡ None
 smaller_none a b h k = rw (h, k) refl
 
+pub nothing_more : (a : Option ℕ) → smaller a None ≡ a
+nothing_more None = refl
+nothing_more (Some n) = refl
+
+pub smaller_assoc : (a b c : Option ℕ) → smaller (smaller a b) c ≡ smaller a (smaller b c)
+smaller_assoc None b c = refl
+smaller_assoc (Some l) None c = refl
+smaller_assoc (Some l) (Some m) None = by (nat_lt m l) where
+  by : (t : Bool) → smaller (if◌then◌else◌ {A = Option ℕ} t (Some m) (Some l)) None ≡ if◌then◌else◌ {A = Option ℕ} t (Some m) (Some l)
+  by true = refl
+  by false = refl
+smaller_assoc (Some l) (Some m) (Some n) = by (nat_lt m l) (nat_lt n m) (nat_lt n l) refl refl refl where
+  by : (p q r : Bool) → nat_lt m l ≡ p → nat_lt n m ≡ q → nat_lt n l ≡ r → smaller (smaller (Some l) (Some m)) (Some n) ≡ smaller (Some l) (smaller (Some m) (Some n))
+  by true true r hp hq hr = let e : nat_lt n l ≡ true = grind (arith, nat_tests, hp, hq) in rw (hp, hq, e) refl
+  by true false r hp hq hr = rw (hp, hq) (rw hp refl)
+  by false true r hp hq hr = rw (hp, hq) refl
+  by false false r hp hq hr = let e : nat_lt n l ≡ false = grind (arith, nat_tests, hp, hq) in rw (hp, hq) (rw (hp, e) refl)
+
 pub first_none : (a b : Option Refusal) → first a b ≡ None → (a ≡ None) × (b ≡ None)
 first_none None b h = (refl, h)
 first_none (Some r) b h = absurd (some_none r h)

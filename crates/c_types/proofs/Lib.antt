@@ -6,3 +6,4 @@ pub mod ExpressionsTyped
 pub mod StatementsTyped
 pub mod ProgramsTyped
 pub mod PlainLaws
+pub mod ArgumentLaws

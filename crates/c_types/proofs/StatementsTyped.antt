@@ -1,5 +1,5 @@
 -- A statement is typed exactly where it has no refusal.
-use Rattle.std.proofs.Common.{◌&&◌, ◌≡◌, ℕ, nat_lt, Bool, true, false, List, [], ◌∷◌, Option, Some, None, refl, arith, subst}
+use Rattle.std.proofs.Common.{◌&&◌, ◌≡◌, ℕ, nat_eq, nat_lt, length, Bool, true, false, List, [], ◌∷◌, Option, Some, None, refl, arith, subst}
 use Rattle.std.specs.Prelude.{if◌then◌else◌}
 use Rattle.std.specs.Option.{is_some}
 use Rattle.std.proofs.lemmas.Bool.Decides.{nat_tests}
@@ -17,10 +17,10 @@ use Rattle.c_types.specs.Names.{Names, found, stands_from, stands_before, smalle
 use Rattle.c_types.specs.Expressions.{wrong, wrong_row, own_kind}
 use Rattle.c_types.specs.Scopes.{in_scope, names_of, is_another, kind_of_dest, wrong_kind, wrong_fresh, wrong_target, wrong_dest, wrong_effect, names_version}
 use Rattle.c_types.specs.Checks.{at_place, first}
-use Rattle.c_types.specs.Calls.{place_in, element_kind, ints, wrong_element, wrong_each, wrong_args, wrong_result, wrong_use, wrong_pointer, wrong_call, wrong_call_by, wrong_return}
+use Rattle.c_types.specs.Calls.{place_in, element_kind, ints, wrong_element, wrong_count, wrong_places, wrong_each, wrong_args, wrong_result, wrong_use, wrong_pointer, wrong_call, wrong_call_by, wrong_return}
 use Rattle.c_types.specs.Statements.{scope_after, block_in, entered, after_block, wrong_answer, refusal, refusals}
 use Rattle.c_types.specs.Typing.{IsRow, IsTyped, IsNarrow, IsFresh, IsCell, IsDest, TakesInt, IsUse, AreArguments, IsPointerCall, IsCall, IsCallBy, IsReturn, IsAnswer, IsTypedStatement, AreTyped}
-use Rattle.c_types.proofs.Combined.{some_none, both_none, smaller_none, first_none, none_first, at_none, none_at, test_false, not_some, fit_sound, fit_itself}
+use Rattle.c_types.proofs.Combined.{some_none, both_none, smaller_none, first_none, none_first, at_none, none_at, test_false, test_true, not_some, fit_sound, fit_itself}
 use Rattle.c_types.proofs.ExpressionsTyped.{row_sound, row_complete, typed, not_wrong}
 
 -- ---- destinations
@@ -34,22 +34,22 @@ narrow_complete Int h = refl
 narrow_complete (Fp n) h = let e : nat_lt 32 n ≡ false = grind (arith, nat_tests, h) in rw e refl
 
 five_tests : (a b c d e : Bool)
-    → if◌then◌else◌ {A = Option ℕ} a (Some 7) (if b then Some 8 else if c then Some 7 else if d then Some 8 else if e then Some 8 else None) ≡ None
+    → if◌then◌else◌ {A = Option ℕ} a (Some 7) (if b then Some 7 else if c then Some 8 else if d then Some 8 else if e then Some 8 else None) ≡ None
     → (a ≡ false) × (b ≡ false) × (c ≡ false) × (d ≡ false) × (e ≡ false)
 five_tests true b c d e h = absurd (some_none 7 h)
-five_tests false true c d e h = absurd (some_none 8 h)
-five_tests false false true d e h = absurd (some_none 7 h)
+five_tests false true c d e h = absurd (some_none 7 h)
+five_tests false false true d e h = absurd (some_none 8 h)
 five_tests false false false true e h = absurd (some_none 8 h)
 five_tests false false false false true h = absurd (some_none 8 h)
 five_tests false false false false false h = (refl, refl, refl, refl, refl)
 
 pub fresh_sound : (b : Block) (s : Scope) (k : Kind) (x : Bytes) → wrong_fresh b s k x ≡ None → IsFresh b s k x
 fresh_sound b s k x h =
-    let t = five_tests (stands_from b.base s.locals x) (is_some (in_scope s x)) (is_another (found s.told x) k) (stands_before b.mark s.ahead x) (s.xform && names_version x) h in
-    record { new = t.0; free = not_some (in_scope s x) t.1; alike = t.2; kept = t.3; own = t.4 }
+    let t = five_tests (stands_from b.base s.locals x) (is_another (found s.told x) k) (is_some (in_scope s x)) (stands_before b.mark s.ahead x) (s.xform && names_version x) h in
+    record { new = t.0; alike = t.1; free = not_some (in_scope s x) t.2; kept = t.3; own = t.4 }
 
 pub fresh_complete : (b : Block) (s : Scope) (k : Kind) (x : Bytes) → IsFresh b s k x → wrong_fresh b s k x ≡ None
-fresh_complete b s k x h = rw (h.new, h.free, h.alike, h.kept, h.own) refl
+fresh_complete b s k x h = rw (h.new, h.alike, h.free, h.kept, h.own) refl
 
 target_sound : (m : Means) → wrong_target m ≡ None → IsCell m
 target_sound (Cell k) h = tt
@@ -83,8 +83,7 @@ effect_sound s h = test_false s.xform 19 h
 result_sound : (gives : Bool) (o : Option Kind) → wrong_result gives o ≡ None → (gives ≡ true) × TakesInt o
 result_sound true None h = (refl, tt)
 result_sound true (Some k) h = (refl, fit_sound k Int h)
-result_sound false None h = absurd (some_none 14 h)
-result_sound false (Some k) h = absurd (some_none 14 (both_none (fits k Int) (Some 14) h).1)
+result_sound false o h = absurd (some_none 14 h)
 
 result_complete : (gives : Bool) (o : Option Kind) → (gives ≡ true) × TakesInt o → wrong_result gives o ≡ None
 result_complete gives None h = rw h.0 refl
@@ -100,19 +99,38 @@ use_complete s gives Nowhere h = refl
 use_complete s gives (Into x) h = result_complete gives (kind_of_dest s (Into x)) h
 use_complete s gives (Fresh k x) h = result_complete gives (kind_of_dest s (Fresh k x)) h
 
+places_sound : (names : Names) (ks : List Kind) (es : List Expression) → length ks ≡ length es → wrong_places names ks es ≡ None
+    → AreArguments names ks es
+places_sound names [] [] c h = tt
+places_sound names [] (e ∷ es) c h = absurd (omega arith)
+places_sound names (k ∷ ks) [] c h = absurd (omega arith)
+places_sound names (k ∷ ks) (e ∷ es) c h =
+    let q = both_none (wrong names k e) (wrong_places names ks es) h in
+    (typed names k e q.0, places_sound names ks es (omega arith) q.1)
+
 args_sound : (names : Names) (ks : List Kind) (es : List Expression) → wrong_args names ks es ≡ None → AreArguments names ks es
-args_sound names [] [] h = tt
-args_sound names [] (e ∷ es) h = absurd (some_none 11 (both_none (Some 11) (wrong_each names (e ∷ es)) h).0)
-args_sound names (k ∷ ks) [] h = absurd (some_none 11 h)
-args_sound names (k ∷ ks) (e ∷ es) h =
-    let q = both_none (wrong names k e) (wrong_args names ks es) h in (typed names k e q.0, args_sound names ks es q.1)
+args_sound names ks es h =
+    let q = both_none (wrong_count (length ks) (length es)) (wrong_places names ks es) h in
+    let e = test_true (nat_eq (length ks) (length es)) 11 q.0 in
+    places_sound names ks es (grind (arith, nat_tests, e)) q.1
+
+same_length : (names : Names) (ks : List Kind) (es : List Expression) → AreArguments names ks es → length ks ≡ length es
+same_length names [] [] h = refl
+same_length names [] (e ∷ es) h = absurd h
+same_length names (k ∷ ks) [] h = absurd h
+same_length names (k ∷ ks) (e ∷ es) h = let others = same_length names ks es h.1 in omega arith
+
+places_complete : (names : Names) (ks : List Kind) (es : List Expression) → AreArguments names ks es → wrong_places names ks es ≡ None
+places_complete names [] [] h = refl
+places_complete names [] (e ∷ es) h = absurd h
+places_complete names (k ∷ ks) [] h = absurd h
+places_complete names (k ∷ ks) (e ∷ es) h =
+    smaller_none (wrong names k e) (wrong_places names ks es) (not_wrong names k e h.0) (places_complete names ks es h.1)
 
 args_complete : (names : Names) (ks : List Kind) (es : List Expression) → AreArguments names ks es → wrong_args names ks es ≡ None
-args_complete names [] [] h = refl
-args_complete names [] (e ∷ es) h = absurd h
-args_complete names (k ∷ ks) [] h = absurd h
-args_complete names (k ∷ ks) (e ∷ es) h =
-    smaller_none (wrong names k e) (wrong_args names ks es) (not_wrong names k e h.0) (args_complete names ks es h.1)
+args_complete names ks es h =
+    let c : length ks ≡ length es = same_length names ks es h in
+    let e : nat_eq (length ks) (length es) ≡ true = grind (arith, nat_tests, c) in rw (e, places_complete names ks es h) refl
 
 -- ---- calls
 

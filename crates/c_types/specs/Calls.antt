@@ -1,5 +1,5 @@
 -- The typing of calls, elements and `return`.
-use Rattle.std.specs.Prelude.{ℕ, zero, suc, Bool, true, false, List, [], ◌∷◌, Option, Some, None}
+use Rattle.std.specs.Prelude.{ℕ, nat_eq, length, zero, suc, Bool, true, false, if◌then◌else◌, List, [], ◌∷◌, Option, Some, None}
 use Rattle.std.specs.Option.{option_or}
 use Rattle.c_lang.specs.Names.{Bytes}
 use Rattle.c_lang.specs.Trees.{Expression}
@@ -36,21 +36,7 @@ wrong_element names a i e =
 
 -- ---- arguments
 
--- arguments of what can't be called have no place
-abbrev pub wrong_each : Names → List Expression → Option ℕ
-wrong_each names [] = None
-wrong_each names (e ∷ es) = smaller (wrong names (own_kind names e) e) (wrong_each names es)
-
--- nor have those past the parameters
-abbrev pub wrong_more : Names → List Expression → Option ℕ
-wrong_more names [] = None
-wrong_more names (e ∷ es) = smaller (Some 11) (wrong_each names (e ∷ es))
-
-abbrev pub wrong_args : Names → List Kind → List Expression → Option ℕ
-wrong_args names [] es = wrong_more names es
-wrong_args names (k ∷ ks) [] = Some 11
-wrong_args names (k ∷ ks) (e ∷ es) = smaller (wrong names k e) (wrong_args names ks es)
-
+-- arguments past the parameters have no place
 abbrev pub first_place : Names → List Kind → Expression → Kind
 first_place names [] e = own_kind names e
 first_place names (k ∷ ks) e = k
@@ -59,18 +45,33 @@ abbrev pub other_places : List Kind → List Kind
 other_places [] = []
 other_places (k ∷ ks) = ks
 
+-- the smallest number that refuses an argument at its place
+abbrev pub wrong_places : Names → List Kind → List Expression → Option ℕ
+wrong_places names ks [] = None
+wrong_places names ks (e ∷ es) = smaller (wrong names (first_place names ks e) e) (wrong_places names (other_places ks) es)
+
+-- arguments of what can't be called have no place
+abbrev pub wrong_each : Names → List Expression → Option ℕ
+wrong_each names es = wrong_places names [] es
+
+-- 11 for another number of arguments
+abbrev pub wrong_count : ℕ → ℕ → Option ℕ
+wrong_count wanted given = if nat_eq wanted given then None else Some 11
+
+abbrev pub wrong_args : Names → List Kind → List Expression → Option ℕ
+wrong_args names ks es = smaller (wrong_count (length ks) (length es)) (wrong_places names ks es)
+
 abbrev pub resolved_args : Names → List Kind → List Expression → List Expr
 resolved_args names ks [] = []
 resolved_args names ks (e ∷ es) = resolved names (first_place names ks e) e ∷ resolved_args names (other_places ks) es
 
 -- ---- results
 
--- a result is an int, where there is one
+-- a result is an int; that of a function that gives none fits no place
 abbrev pub wrong_result : Bool → Option Kind → Option ℕ
 wrong_result true None = None
 wrong_result true (Some k) = fits k Int
-wrong_result false None = Some 14
-wrong_result false (Some k) = smaller (fits k Int) (Some 14)
+wrong_result false place = Some 14
 
 abbrev pub wrong_use : Scope → Bool → Dest → Option ℕ
 wrong_use scope gives Nowhere = None
@@ -102,11 +103,16 @@ wrong_call_by scope (Code params gives value denied) d es = smaller (Some 10) (w
 wrong_call_by scope Row d es = smaller (Some 10) (wrong_each (names_of scope) es)
 wrong_call_by scope (Refused n) d es = smaller (Some n) (wrong_each (names_of scope) es)
 
+-- only a function's parameters are places: what a pointer takes is ints, and resolved as what goes to no place
+abbrev pub places_of : Means → List Kind
+places_of (Code params gives value denied) = params
+places_of (Cell k) = []
+places_of Row = []
+places_of (Refused n) = []
+
 abbrev pub resolved_call : Scope → Means → Pos → Dest → Bytes → List Expression → Stmt
-resolved_call scope (Code params gives value denied) p d f es = stmt.Call p d f (resolved_args (names_of scope) params es)
 resolved_call scope (Cell k) p d f es = stmt.CallBy p d f (resolved_args (names_of scope) [] es)
-resolved_call scope Row p d f es = stmt.Call p d f (resolved_args (names_of scope) [] es)
-resolved_call scope (Refused n) p d f es = stmt.Call p d f (resolved_args (names_of scope) [] es)
+resolved_call scope m p d f es = stmt.Call p d f (resolved_args (names_of scope) (places_of m) es)
 
 -- ---- return
 

@@ -45,14 +45,14 @@ is_another (Some (Code params gives value denied)) k = false
 is_another (Some (Refused n)) k = false
 is_another None k = false
 
--- 7 where the block has the local already; 8 where the name is in scope, so that a global, a function, a
--- parameter or a local of an enclosing block has it; 7 where a block that has ended had it with another
--- kind; 8 where an enclosing block declares it further on, or a transformer names a version's so
+-- 7 where the block has the local already, or a block that has ended had it with another kind; 8 where the
+-- name is in scope, so that a global, a function, a parameter or a local of an enclosing block has it, where
+-- an enclosing block declares it further on, or a transformer names a version's so
 abbrev pub wrong_fresh : Block → Scope → Kind → Bytes → Option ℕ
 wrong_fresh block scope k x =
     if stands_from block.base scope.locals x then Some 7
-    else if is_some (in_scope scope x) then Some 8
     else if is_another (found scope.told x) k then Some 7
+    else if is_some (in_scope scope x) then Some 8
     else if stands_before block.mark scope.ahead x then Some 8
     else if scope.xform && names_version x then Some 8
     else None
@@ -63,7 +63,7 @@ with_dest entries (Into x) = entries
 with_dest entries (Fresh k x) = added entries x (Cell k)
 
 abbrev pub declared : Scope → Dest → Scope
-declared scope d = record scope { locals = with_dest scope.locals d; told = with_dest scope.told d }
+declared scope d = record scope { locals = with_dest scope.locals d }
 
 -- ---- where a value goes
 

@@ -32,12 +32,12 @@ abbrev pub with_locals : Entries → Statements → Entries
 with_locals entries none = entries
 with_locals entries (more s ss) = with_locals (with_dest entries (dest_of s)) ss
 
+-- the locals of the blocks that have ended behind a statement, each block's where it ends
 abbrev mutual
-  -- those that are declared in their bodies too
   pub told_by : Entries → Statement → Entries
-  told_by entries (if_else p e xs ys) = told_by_all (told_by_all entries xs) ys
-  told_by entries (while_loop p e xs) = told_by_all entries xs
-  told_by entries s = with_dest entries (dest_of s)
+  told_by entries (if_else p e xs ys) = with_locals (told_by_all (with_locals (told_by_all entries xs) xs) ys) ys
+  told_by entries (while_loop p e xs) = with_locals (told_by_all entries xs) xs
+  told_by entries s = entries
 
   pub told_by_all : Entries → Statements → Entries
   told_by_all entries none = entries
@@ -59,7 +59,7 @@ abbrev pub entered : Scope → Statements → Scope
 entered scope ss = record scope { ahead = with_locals scope.ahead ss }
 
 abbrev pub after_block : Scope → Statements → Scope
-after_block scope ss = record scope { told = told_by_all scope.told ss }
+after_block scope ss = record scope { told = with_locals (told_by_all scope.told ss) ss }
 
 -- ---- the first refusal
 

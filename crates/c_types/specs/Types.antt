@@ -1,10 +1,8 @@
 -- Which functions and programs are typed.
-use Rattle.std.specs.Prelude.{⊤, ◌≡◌, ◌≤◌, ◌-◌, ℕ, true, false, List, [], ◌∷◌, length, Option, Some, None, Result, Ok, Err, Bool}
+use Rattle.std.specs.Prelude.{⊤, ◌≡◌, ◌≤◌, ◌-◌, ℕ, true, false, List, [], ◌∷◌, length, Option, Some, None, Bool}
 use Rattle.c_lang.specs.Names.{Bytes}
 use Rattle.c_types.specs.Bodies.{body_of}
 use Rattle.c_lang.specs.declared.unit.Unit.{Unit}
-use Rattle.c_lang.specs.declared.refusal.Fail.{Fail}
-use Rattle.c_lang.specs.declared.refusal.Fail.TheVariants as fail
 use Rattle.c_lang.specs.declared.stmt.Kind.{Kind}
 use Rattle.c_lang.specs.declared.stmt.Kind.TheVariants.{Fp}
 use Rattle.c_lang.specs.declared.program.Shape.{Shape}
@@ -21,7 +19,7 @@ use Rattle.c_types.specs.Typing.{IsFunction, IsNarrow, IsFresh, AreTyped}
 use Rattle.c_types.specs.Endings.{can_end}
 use Rattle.c_types.specs.Statements.{block_in, entered}
 use Rattle.c_types.specs.Functions.{kinds_of, scope_of, with_param, params_block, body_scope, is_main}
-use Rattle.c_types.specs.Programs.{with_global, with_globals, with_func, with_funcs, outside_of, cells_of, has_main, first_refusal, resolved_program}
+use Rattle.c_types.specs.Programs.{with_global, with_globals, with_func, with_funcs, outside_of, cells_of, has_main}
 use Rattle.c_lang.specs.Limits.{cell_limit}
 
 -- ---- globals
@@ -102,9 +100,3 @@ pub record Types (u : Unit) (p : Program) : Type 0 where
   pub funcs : AreTypedFuncs (outside_of p.globals p.funcs) false (with_globals [] p.globals) p.funcs
   pub main : has_main p.funcs ≡ true
   pub early : p.early ≡ []
-
--- a typed program in its resolved form, or the first refusal of one that isn't typed
-abbrev pub IsChecked : Unit → Program → Result Program Fail → Type 0
-IsChecked u p (Ok t) = Types u p × (t ≡ resolved_program p)
-IsChecked u p (Err fail.NoMemory) = ⊤
-IsChecked u p (Err (fail.Refused r)) = (Types u p → ⊥) × (first_refusal u p ≡ Some r)

@@ -69,10 +69,10 @@ IsNarrow (Fp n) = n ≤ 32
 pub record IsFresh (block : Block) (scope : Scope) (k : Kind) (x : Bytes) : Type 0 where
   -- the block doesn't have it yet
   pub new : stands_from block.base scope.locals x ≡ false
-  -- nor has anything that is in scope its name
-  pub free : in_scope scope x ≡ None
   -- nor had a block that has ended a local of this name with another kind
   pub alike : is_another (found scope.told x) k ≡ false
+  -- nor has anything that is in scope its name
+  pub free : in_scope scope x ≡ None
   -- nor does an enclosing block declare it further on
   pub kept : stands_before block.mark scope.ahead x ≡ false
   -- nor does a transformer name something of a version so

@@ -47,47 +47,93 @@ pub fn wrong_element(scope: &Scope, array: &Name, index: &Expr, value: &Expr) ->
     smaller(wrong_row(row), inside)
 }
 
+fn first_place(scope: &Scope, places: &[Kind], e: &Expr) -> Kind
+    ensures { result ≡ spec.first_place (names_of scope.now) places.now (expression_of e.now) }
+{
+    match places {
+        [place, _others @ ..] => *place,
+        [] => own_kind(scope, e),
+    }
+}
+
+fn other_places(places: &[Kind]) -> &[Kind]
+    ensures { result.now ≡ spec.other_places places.now }
+{
+    match places {
+        [_place, others @ ..] => others,
+        [] => places,
+    }
+}
+
+#[tactic(auto, using(crate::proofs::ArgumentLaws::places_step))]
+fn wrong_places(scope: &Scope, params: &[Kind], args: &[Expr]) -> Option<u8>
+    ensures { result ≡ spec.wrong_places (names_of scope.now) params.now (map expression_of args.now) }
+{
+    let mut number = None;
+    let mut left = params;
+    for e in args {
+        number = smaller(number, wrong(scope, first_place(scope, left, e), e));
+        left = other_places(left);
+    }
+    number
+}
+
 fn wrong_each(scope: &Scope, args: &[Expr]) -> Option<u8>
     ensures { result ≡ spec.wrong_each (names_of scope.now) (map expression_of args.now) }
 {
-    let [e, es @ ..] = args else {
-        return None;
-    };
-    smaller(wrong(scope, own_kind(scope, e), e), wrong_each(scope, es))
+    wrong_places(scope, &[], args)
 }
 
-fn wrong_more(scope: &Scope, args: &[Expr]) -> Option<u8>
-    ensures { result ≡ spec.wrong_more (names_of scope.now) (map expression_of args.now) }
+fn wrong_count(wanted: usize, given: usize) -> Option<u8>
+    ensures { result ≡ spec.wrong_count wanted given }
 {
-    let [_e, _es @ ..] = args else {
-        return None;
-    };
-    smaller(Some(11), wrong_each(scope, args))
+    if wanted == given { None } else { Some(11) }
 }
 
 fn wrong_args(scope: &Scope, params: &[Kind], args: &[Expr]) -> Option<u8>
     ensures { result ≡ spec.wrong_args (names_of scope.now) params.now (map expression_of args.now) }
 {
-    let [k, ks @ ..] = params else {
-        return wrong_more(scope, args);
-    };
-    let [e, es @ ..] = args else {
-        return Some(11);
-    };
-    smaller(wrong(scope, *k, e), wrong_args(scope, ks, es))
+    let inside = wrong_places(scope, params, args);
+    smaller(wrong_count(params.len(), args.len()), inside)
+}
+
+fn first_int(scope: &Scope, count: u8, e: &Expr) -> Kind
+    ensures { result ≡ spec.first_place (names_of scope.now) (spec.ints count) (expression_of e.now) }
+{
+    if count > 0 {
+        Kind::Int
+    } else {
+        own_kind(scope, e)
+    }
+}
+
+#[tactic(auto, using(crate::proofs::ArgumentLaws::ints_after))]
+fn other_ints(count: u8) -> u8
+    ensures { spec.ints result ≡ spec.other_places (spec.ints count) }
+{
+    count.saturating_sub(1)
+}
+
+#[tactic(auto, using(crate::proofs::ArgumentLaws::places_step))]
+fn wrong_int_places(scope: &Scope, count: u8, args: &[Expr]) -> Option<u8>
+    ensures { result ≡ spec.wrong_places (names_of scope.now) (spec.ints count) (map expression_of args.now) }
+{
+    let mut number = None;
+    let mut left = count;
+    for e in args {
+        number = smaller(number, wrong(scope, first_int(scope, left, e), e));
+        left = other_ints(left);
+    }
+    number
 }
 
 // The arguments of a call through a pointer.
+#[tactic(auto, using(crate::proofs::ArgumentLaws::ints_counted))]
 fn wrong_ints(scope: &Scope, count: u8, args: &[Expr]) -> Option<u8>
     ensures { result ≡ spec.wrong_args (names_of scope.now) (spec.ints count) (map expression_of args.now) }
 {
-    if count == 0 {
-        return wrong_more(scope, args);
-    }
-    let [e, es @ ..] = args else {
-        return Some(11);
-    };
-    smaller(wrong(scope, Kind::Int, e), wrong_ints(scope, count - 1, es))
+    let inside = wrong_int_places(scope, count, args);
+    smaller(wrong_count(count as usize, args.len()), inside)
 }
 
 fn wrong_result(gives: bool, kind: Option<Kind>) -> Option<u8>
@@ -96,8 +142,7 @@ fn wrong_result(gives: bool, kind: Option<Kind>) -> Option<u8>
     match (gives, kind) {
         (true, None) => None,
         (true, Some(kind)) => fits(kind, Kind::Int),
-        (false, None) => Some(14),
-        (false, Some(kind)) => smaller(fits(kind, Kind::Int), Some(14)),
+        (false, _) => Some(14),
     }
 }
 
@@ -176,16 +221,29 @@ pub fn resolve_args(
     let mut all = Items::new(alloc);
     let mut left = params;
     for e in args {
-        let place = match left {
-            [k, rest @ ..] => {
-                left = rest;
-                *k
-            }
-            [] => own_kind(scope, e),
-        };
+        let place = first_place(scope, left, e);
+        left = other_places(left);
         all.push(resolve(alloc, scope, place, e)?)?;
     }
     Ok(all)
+}
+
+// The arguments of a call of this name.
+fn resolve_given(
+    alloc: Global,
+    scope: &Scope,
+    callee: Option<&Means>,
+    args: &[Expr],
+) -> Result<Items<Expr>, AllocError>
+    ensures { IfOk result (λ exprs. exprs ≡ spec.resolved_args (names_of scope.now) (spec.places_of (meant (option_copied callee.entry))) (map expression_of args.now)) }
+{
+    match callee {
+        Some(Means::Code { params, .. }) => resolve_args(alloc, scope, params.as_slice(), args),
+        Some(Means::Cell(_)) => resolve_args(alloc, scope, &[], args),
+        Some(Means::Row) => resolve_args(alloc, scope, &[], args),
+        Some(Means::Refused(_)) => resolve_args(alloc, scope, &[], args),
+        None => resolve_args(alloc, scope, &[], args),
+    }
 }
 
 /// A call in its resolved form. The only error is want of memory.
@@ -201,25 +259,23 @@ pub fn resolve_call(
 {
     let dest = copy_dest(alloc, dest)?;
     let name = callee.copy(alloc)?;
-    match scope.look(callee) {
-        Some(Means::Code { params, .. }) => Ok(Stmt::Call {
-            pos,
-            dest,
-            callee: name,
-            args: resolve_args(alloc, scope, params.as_slice(), args)?,
-        }),
+    let means = scope.look(callee);
+    let args = resolve_given(alloc, scope, means, args)?;
+    match means {
         Some(Means::Cell(_)) => Ok(Stmt::CallBy {
             pos,
             dest,
             pointer: name,
-            args: resolve_args(alloc, scope, &[], args)?,
+            args,
         }),
-        Some(Means::Row) | Some(Means::Refused(_)) | None => Ok(Stmt::Call {
-            pos,
-            dest,
-            callee: name,
-            args: resolve_args(alloc, scope, &[], args)?,
-        }),
+        Some(Means::Code { .. }) | Some(Means::Row) | Some(Means::Refused(_)) | None => {
+            Ok(Stmt::Call {
+                pos,
+                dest,
+                callee: name,
+                args,
+            })
+        }
     }
 }
 

@@ -184,10 +184,12 @@ pub fn check_func(
     enter(scope, f.gives);
     let number = add_head(alloc, scope, again, f)?;
     stop(number, f.pos)?;
+    let name = f.name.copy(alloc)?;
+    let params = copy_params(alloc, f.params.as_slice())?;
     let body = body(alloc, scope, f.body.as_slice())?;
     Ok(Func {
-        name: f.name.copy(alloc)?,
-        params: copy_params(alloc, f.params.as_slice())?,
+        name,
+        params,
         gives: f.gives,
         body,
         pos: f.pos,

@@ -3,7 +3,9 @@
 
 ghost use Rattle.std.specs.Prelude.{◌≡◌, IfOk};
 ghost use Rattle.std.specs.Option.{option_copied};
+ghost use Rattle.c_lang.specs.Trees as tree;
 ghost use Rattle.c_lang.specs.Trees.{expression_of};
+ghost use Rattle.c_lang.specs.declared.stmt.Kind.TheVariants.{Int};
 ghost use Rattle.c_types.specs.Names.{meant};
 ghost use Rattle.c_types.specs.Scopes.{names_of};
 ghost use Rattle.c_types.specs.Expressions as spec;
@@ -35,32 +37,40 @@ fn resolve_literal(place: Kind, number: i32) -> Expr
 }
 
 /// The resolved form of an expression at its place.
+#[cycle(resolve)]
 pub fn resolve(alloc: Global, scope: &Scope, place: Kind, e: &Expr) -> Result<Expr, AllocError>
     ensures { IfOk result (λ expr. expr ≡ spec.resolved (names_of scope.now) place (expression_of e.now)) }
 {
     match e {
         Expr::Lit(z) => Ok(resolve_literal(place, *z)),
         Expr::Var(x) => resolve_name(alloc, x, scope.look(x)),
-        Expr::Elem(a, i) => {
-            let a = a.copy(alloc)?;
-            let i = resolve(alloc, scope, Kind::Int, i.get())?;
-            Ok(Expr::Elem(a, Boxed::new(alloc, i)?))
-        }
+        Expr::Elem(a, i) => resolve_element(alloc, scope, a, i.get()),
         Expr::FunRef(f) => Ok(Expr::FunRef(f.copy(alloc)?)),
         Expr::Null => Ok(Expr::Null),
-        Expr::Neg(a) => {
-            let a = resolve(alloc, scope, Kind::Int, a.get())?;
-            Ok(Expr::Neg(Boxed::new(alloc, a)?))
-        }
-        Expr::Not(a) => {
-            let a = resolve(alloc, scope, Kind::Int, a.get())?;
-            Ok(Expr::Not(Boxed::new(alloc, a)?))
-        }
+        Expr::Neg(a) => Ok(Expr::Neg(boxed(alloc, scope, Kind::Int, a.get())?)),
+        Expr::Not(a) => Ok(Expr::Not(boxed(alloc, scope, Kind::Int, a.get())?)),
         Expr::Bin(op, a, b) => {
             let both = place_of(scope, *op, a.get(), b.get());
-            let a = resolve(alloc, scope, both, a.get())?;
-            let b = resolve(alloc, scope, both, b.get())?;
-            Ok(Expr::Bin(*op, Boxed::new(alloc, a)?, Boxed::new(alloc, b)?))
+            let a = boxed(alloc, scope, both, a.get())?;
+            let b = boxed(alloc, scope, both, b.get())?;
+            Ok(Expr::Bin(*op, a, b))
         }
     }
+}
+
+#[cycle(resolve)]
+fn resolve_element(alloc: Global, scope: &Scope, a: &Name, i: &Expr) -> Result<Expr, AllocError>
+    ensures { IfOk result (λ expr. expr ≡ spec.resolved (names_of scope.now) Int (tree.element a.now (expression_of i.now))) }
+{
+    let a = a.copy(alloc)?;
+    let i = boxed(alloc, scope, Kind::Int, i)?;
+    Ok(Expr::Elem(a, i))
+}
+
+/// The same in a box, where other work comes before its use.
+#[cycle(resolve)]
+pub fn boxed(alloc: Global, scope: &Scope, place: Kind, e: &Expr) -> Result<Boxed<Expr>, AllocError>
+    ensures { IfOk result (λ expr. expr ≡ spec.resolved (names_of scope.now) place (expression_of e.now)) }
+{
+    Boxed::new(alloc, resolve(alloc, scope, place, e)?)
 }

@@ -17,7 +17,7 @@ pub struct Scope {
     pub outside: Symbols,
     /// The parameters, then the locals that are visible.
     pub locals: Symbols,
-    /// All locals that the function's text has declared so far.
+    /// The locals of the function's blocks that have ended.
     pub told: Symbols,
     /// The locals of all open blocks, also those that are declared further on.
     pub ahead: Symbols,
@@ -89,10 +89,10 @@ pub fn wrong_fresh(scope: &Scope, block: Block, kind: Kind, name: &Name) -> Opti
 {
     if scope.locals.stands_from(block.base, name) {
         Some(7)
-    } else if scope.look(name).is_some() {
-        Some(8)
     } else if is_another(scope.told.find(name), kind) {
         Some(7)
+    } else if scope.look(name).is_some() {
+        Some(8)
     } else if scope.ahead.stands_before(block.mark, name) {
         Some(8)
     } else if scope.xform && names_version(name) {
@@ -158,8 +158,7 @@ pub fn add_dest(alloc: Global, symbols: &mut Symbols, dest: &Dest) -> Result<(),
 pub fn declare(alloc: Global, scope: &mut Scope, dest: &Dest) -> Result<(), AllocError>
     ensures { OnOk result (scope.new ≡ spec.declared scope.old dest.now) }
 {
-    add_dest(alloc, &mut scope.locals, dest)?;
-    add_dest(alloc, &mut scope.told, dest)
+    add_dest(alloc, &mut scope.locals, dest)
 }
 
 /// A copy of a destination. The only error is want of memory.

@@ -6,11 +6,11 @@ ghost use Rattle.std.specs.Option.{option_map};
 ghost use Rattle.c_lang.specs.Trees as tree;
 ghost use Rattle.c_lang.specs.Trees.{expression_of};
 ghost use Rattle.c_lang.specs.declared.stmt.Kind.TheVariants.{Int};
+ghost use Rattle.c_lang.specs.declared.stmt.Stmt.{Stmt};
 ghost use Rattle.c_types.specs.Calls as calls;
 ghost use Rattle.c_types.specs.Checks.{Checked, Stops, at_place};
 ghost use Rattle.c_types.specs.Expressions as expression;
-ghost use Rattle.c_types.specs.Names as names;
-ghost use Rattle.c_types.specs.Scopes.{declared, names_of, wrong_effect};
+ghost use Rattle.c_types.specs.Scopes.{declared, names_of};
 ghost use Rattle.c_types.specs.Statements as spec;
 
 use crate::calls::{
@@ -19,9 +19,10 @@ use crate::calls::{
 };
 use crate::expressions::wrong;
 use crate::means::smaller;
-use crate::resolving::resolve;
+use crate::resolving::{boxed, resolve};
 use crate::scope::{Block, Scope, copy_dest, declare, wrong_dest, wrong_effect};
 use c_lang::{Dest, Expr, Fail, Kind, Name, Pos, Refusal, Stmt};
+use sqlite_items::Boxed;
 use std::alloc::Global;
 
 /// The refusal by this number, where there is one.
@@ -39,11 +40,11 @@ pub fn stop(number: Option<u8>, pos: Pos) -> Result<(), Fail>
 }
 
 /// An int that is looked at by itself.
-pub fn int(alloc: Global, scope: &Scope, pos: Pos, e: &Expr) -> Result<Expr, Fail>
+pub fn int(alloc: Global, scope: &Scope, pos: Pos, e: &Expr) -> Result<Boxed<Expr>, Fail>
     ensures { Checked result (at_place (expression.wrong (names_of scope.now) Int (expression_of e.now)) pos) (expression.resolved (names_of scope.now) Int (expression_of e.now)) }
 {
     stop(wrong(scope, Kind::Int, e), pos)?;
-    Ok(resolve(alloc, scope, Kind::Int, e)?)
+    Ok(boxed(alloc, scope, Kind::Int, e)?)
 }
 
 /// A value that goes to a name.
@@ -61,10 +62,14 @@ pub fn set(
     let place = place_in(scope, dest, value);
     let number = smaller(wrong_dest(scope, block, dest), wrong(scope, place, value));
     stop(number, pos)?;
-    let value = resolve(alloc, scope, place, value)?;
+    let value = boxed(alloc, scope, place, value)?;
     declare(alloc, scope, dest)?;
     let dest = copy_dest(alloc, dest)?;
-    Ok(Stmt::Set { pos, dest, value })
+    Ok(Stmt::Set {
+        pos,
+        dest,
+        value: value.into_inner(),
+    })
 }
 
 /// A value that goes to an element.
@@ -80,13 +85,13 @@ pub fn set_element(
 {
     stop(wrong_element(scope, array, index, value), pos)?;
     let kind = element_kind(scope, scope.look(array), value);
-    let index = resolve(alloc, scope, Kind::Int, index)?;
-    let value = resolve(alloc, scope, kind, value)?;
     let array = array.copy(alloc)?;
+    let index = boxed(alloc, scope, Kind::Int, index)?;
+    let value = resolve(alloc, scope, kind, value)?;
     Ok(Stmt::SetElem {
         pos,
         array,
-        index,
+        index: index.into_inner(),
         value,
     })
 }
@@ -106,9 +111,9 @@ pub fn call(
 {
     let inside = wrong_call(scope, scope.look(callee), dest, args);
     stop(smaller(wrong_dest(scope, block, dest), inside), pos)?;
-    let stmt = resolve_call(alloc, scope, pos, dest, callee, args)?;
+    let stmt = Boxed::new(alloc, resolve_call(alloc, scope, pos, dest, callee, args)?)?;
     declare(alloc, scope, dest)?;
-    Ok(stmt)
+    Ok(stmt.into_inner())
 }
 
 /// A call that is written as one through a pointer.
@@ -145,8 +150,8 @@ fn wrong_answer(scope: &Scope, block: Block, dest: &Dest) -> Option<u8>
     smaller(wrong_dest(scope, block, dest), inside)
 }
 
-/// The destination of an input or a choice.
-pub fn answer(
+// The destination of an input or a choice.
+fn answer(
     alloc: Global,
     scope: &mut Scope,
     block: Block,
@@ -161,15 +166,73 @@ pub fn answer(
     Ok(copy_dest(alloc, dest)?)
 }
 
-/// An output.
-pub fn output(alloc: Global, scope: &Scope, pos: Pos, e: &Expr) -> Result<Expr, Fail>
-    ensures { Checked result (at_place (names.smaller (wrong_effect scope.now) (expression.wrong (names_of scope.now) Int (expression_of e.now))) pos) (expression.resolved (names_of scope.now) Int (expression_of e.now)) }
+/// An input.
+pub fn input(
+    alloc: Global,
+    scope: &mut Scope,
+    block: Block,
+    pos: Pos,
+    dest: &Dest,
+) -> Result<Stmt, Fail>
+    ensures checked { spec.IsStatement block scope.old (tree.input pos dest.now) result }
+    ensures scope { OnOk result (scope.new ≡ spec.scope_after scope.old (tree.input pos dest.now)) }
 {
-    stop(
-        smaller(wrong_effect(scope), wrong(scope, Kind::Int, e)),
+    let dest = answer(alloc, scope, block, pos, dest)?;
+    Ok(Stmt::Input { pos, dest })
+}
+
+/// A choice.
+pub fn choice(
+    alloc: Global,
+    scope: &mut Scope,
+    block: Block,
+    pos: Pos,
+    dest: &Dest,
+    k: u32,
+) -> Result<Stmt, Fail>
+    ensures checked { spec.IsStatement block scope.old (tree.choice pos dest.now k) result }
+    ensures scope { OnOk result (scope.new ≡ spec.scope_after scope.old (tree.choice pos dest.now k)) }
+{
+    let dest = answer(alloc, scope, block, pos, dest)?;
+    Ok(Stmt::Choice { pos, dest, k })
+}
+
+/// An output.
+pub fn output(alloc: Global, scope: &Scope, pos: Pos, value: &Expr) -> Result<Stmt, Fail>
+    ensures { spec.IsStatement (spec.block_in scope.now) scope.now (tree.output pos (expression_of value.now)) result }
+{
+    let number = smaller(wrong_effect(scope), wrong(scope, Kind::Int, value));
+    stop(number, pos)?;
+    let value = resolve(alloc, scope, Kind::Int, value)?;
+    Ok(Stmt::Output { pos, value })
+}
+
+/// An assertion.
+pub fn assert_that(alloc: Global, scope: &Scope, pos: Pos, cond: &Expr) -> Result<Stmt, Fail>
+    ensures { spec.IsStatement (spec.block_in scope.now) scope.now (tree.assert_that pos (expression_of cond.now)) result }
+{
+    stop(wrong(scope, Kind::Int, cond), pos)?;
+    let cond = resolve(alloc, scope, Kind::Int, cond)?;
+    Ok(Stmt::Assert { pos, cond })
+}
+
+/// A point.
+pub fn point(scope: &Scope, pos: Pos, k: u32) -> Result<Stmt, Fail>
+    ensures { spec.IsStatement (spec.block_in scope.now) scope.now (tree.point pos k) result }
+{
+    stop(wrong_effect(scope), pos)?;
+    Ok(Stmt::Point { pos, k })
+}
+
+/// 21, where a statement stands in clients alone.
+pub fn of_clients_alone(pos: Pos) -> Result<Stmt, Fail>
+    ensures { (stmt : Stmt) → Checked result (at_place (Some 21) pos) stmt }
+{
+    Err(Fail::Refused(Refusal {
+        number: 21,
         pos,
-    )?;
-    Ok(resolve(alloc, scope, Kind::Int, e)?)
+        name: None,
+    }))
 }
 
 /// A `return`.

@@ -8,8 +8,11 @@ ghost use Rattle.c_types.specs.Checks.{Checked};
 ghost use Rattle.c_types.specs.Scopes.{with_dest};
 ghost use Rattle.c_types.specs.Statements as spec;
 
-use crate::scope::{Block, Scope, add_dest, wrong_effect};
-use crate::simple::{answer, call, call_by, int, output, return_with, set, set_element, stop};
+use crate::scope::{Block, Scope, add_dest};
+use crate::simple::{
+    assert_that, call, call_by, choice, input, int, of_clients_alone, output, point, return_with,
+    set, set_element,
+};
 use crate::symbols::Symbols;
 use c_lang::{Fail, Stmt};
 use sqlite_items::Items;
@@ -82,7 +85,7 @@ pub fn statement(alloc: Global, scope: &mut Scope, block: Block, s: &Stmt) -> Re
             let no = body(alloc, scope, no.as_slice())?;
             Ok(Stmt::If {
                 pos: *pos,
-                cond,
+                cond: cond.into_inner(),
                 yes,
                 no,
             })
@@ -92,41 +95,19 @@ pub fn statement(alloc: Global, scope: &mut Scope, block: Block, s: &Stmt) -> Re
             let body = body(alloc, scope, s.as_slice())?;
             Ok(Stmt::While {
                 pos: *pos,
-                cond,
+                cond: cond.into_inner(),
                 body,
             })
         }
         Stmt::Break { pos } => Ok(Stmt::Break { pos: *pos }),
         Stmt::Return { pos, value } => return_with(alloc, scope, *pos, value),
-        Stmt::Assert { pos, cond } => Ok(Stmt::Assert {
-            pos: *pos,
-            cond: int(alloc, scope, *pos, cond)?,
-        }),
-        Stmt::Input { pos, dest } => Ok(Stmt::Input {
-            pos: *pos,
-            dest: answer(alloc, scope, block, *pos, dest)?,
-        }),
-        Stmt::Output { pos, value } => Ok(Stmt::Output {
-            pos: *pos,
-            value: output(alloc, scope, *pos, value)?,
-        }),
-        Stmt::Point { pos, k } => {
-            stop(wrong_effect(scope), *pos)?;
-            Ok(Stmt::Point { pos: *pos, k: *k })
-        }
-        Stmt::Choice { pos, dest, k } => Ok(Stmt::Choice {
-            pos: *pos,
-            dest: answer(alloc, scope, block, *pos, dest)?,
-            k: *k,
-        }),
-        Stmt::Force { pos } => {
-            stop(Some(21), *pos)?;
-            Ok(Stmt::Force { pos: *pos })
-        }
-        Stmt::Pick { pos, .. } => {
-            stop(Some(21), *pos)?;
-            Ok(Stmt::Skip { pos: *pos })
-        }
+        Stmt::Assert { pos, cond } => assert_that(alloc, scope, *pos, cond),
+        Stmt::Input { pos, dest } => input(alloc, scope, block, *pos, dest),
+        Stmt::Output { pos, value } => output(alloc, scope, *pos, value),
+        Stmt::Point { pos, k } => point(scope, *pos, *k),
+        Stmt::Choice { pos, dest, k } => choice(alloc, scope, block, *pos, dest, *k),
+        Stmt::Force { pos } => of_clients_alone(*pos),
+        Stmt::Pick { pos, .. } => of_clients_alone(*pos),
     }
 }
 
@@ -160,6 +141,7 @@ pub fn body(alloc: Global, scope: &mut Scope, stmts: &[Stmt]) -> Result<Items<St
     };
     add_locals(alloc, &mut scope.ahead, stmts)?;
     let all = sequence(alloc, scope, block, stmts)?;
+    add_locals(alloc, &mut scope.told, stmts)?;
     scope.locals.truncate(block.base);
     scope.ahead.truncate(block.mark);
     Ok(all)

@@ -1,24 +1,26 @@
 //! Typed programs.
 
 ghost use Rattle.std.specs.Prelude.{◌≡◌};
-ghost use Rattle.c_types.specs.Kept.{IsKept};
-ghost use Rattle.c_types.specs.Types.{IsChecked};
+ghost use Rattle.c_grammar.specs.Written.{IsWritten};
+ghost use Rattle.c_types.specs.Kept.{IsChecked, IsKept};
 
 use crate::programs::check_program;
 use c_lang::{Fail, Program, Unit};
 use std::alloc::Global;
 use std::marker::Model;
 
-/// A program that is the resolved form of a typed one. Contracts see it as the program.
+/// A program that is the resolved form of one that was typed in its unit and written in it. Contracts
+/// see it as the unit and the program.
 #[derive(Debug, Drop)]
 pub struct Typed {
+    unit: Unit,
     program: Program,
 }
 
 impl Model for Typed {
-    ghost use Rattle.c_lang.specs.declared.program.Program.{Program};
+    ghost use Rattle.c_types.specs.Kept.{TypedProgram};
 
-    ghost Value = { Program };
+    ghost Value = { TypedProgram };
 
     ghost use Rattle.std.specs.Coded.{codes};
     ghost use Rattle.c_lang.specs.contracts.stmt.Stmt as stmt;
@@ -27,15 +29,22 @@ impl Model for Typed {
 
     ghost use Rattle.c_types.specs.Kept.{IsKept};
 
-    ghost view = { λ t. t.program };
+    ghost view = { λ t. record { unit = t.unit; program = t.program } };
 
-    ghost invariant = { λ t. IsKept t.program };
+    ghost invariant = { λ t. IsKept (record { unit = t.unit; program = t.program }) };
 }
 
 impl Typed {
+    /// The unit that the program was checked in. It takes no memory.
+    pub fn unit(&self) -> Unit
+        ensures { result ≡ self.now.unit }
+    {
+        self.unit
+    }
+
     /// The program that was checked, in its resolved form. It takes no memory.
     pub fn program(&self) -> &Program
-        ensures program { result.now ≡ self.now }
+        ensures program { result.now ≡ self.now.program }
         ensures kept { IsKept self.now }
     {
         &self.program
@@ -48,8 +57,9 @@ impl Typed {
 /// (7 to 15, 21 and 27), and want of memory.
 #[tactic(auto, using(crate::proofs::ProgramsTyped::refused))]
 pub fn check(alloc: Global, unit: Unit, program: Program) -> Result<Typed, Fail>
+    requires { IsWritten unit program }
     ensures { IsChecked unit program result }
 {
     let program = check_program(alloc, unit, program)?;
-    Ok(Typed { program })
+    Ok(Typed { unit, program })
 }

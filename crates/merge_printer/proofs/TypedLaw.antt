@@ -13,6 +13,7 @@ use Rattle.c_grammar.specs.Written.{Parses}
 use Rattle.merge_printer.specs.Checked.{IsCheckedMerge, ChecksAs}
 use Rattle.c_types.specs.Plain.{plain_expression, plain_statement, plain_statements, plain_func, PlainProgram}
 use Rattle.c_types.specs.Programs.{resolved_program}
+use Rattle.c_types.specs.Kept.{TypedProgram}
 use Rattle.c_types.specs.Types.{Types}
 use Rattle.c_types.proofs.PlainLaws.{plain_resolved_program}
 use Rattle.merge_printer.specs.Plain.{built_func, plain}
@@ -90,18 +91,18 @@ resolved_back P h =
 
 -- ---- the law
 
-checks_again : (kept : Program) → IsCheckedMerge kept → ChecksAs (program_text kept) kept
+checks_again : (kept : TypedProgram) → IsCheckedMerge kept → ChecksAs (program_text kept.program) kept
 checks_again kept h =
-    let same : plain kept ≡ h.source = ap plain h.resolved ∙ resolved_back h.source h.typed ∙ source_plain h.source h.printable in
+    let same : plain kept.program ≡ h.source = ap (λ (k : TypedProgram). plain k.program) h.resolved ∙ resolved_back h.source h.typed ∙ source_plain h.source h.printable in
     record {
       program = h.source;
-      parses = subst (λ (P : Program). Parses Merge 72 (program_text kept) P) same (parses_again kept (subst IsPrintable (sym same) h.printable));
+      parses = subst (λ (P : Program). Parses Merge 72 (program_text kept.program) P) same (parses_again kept.program (subst IsPrintable (sym same) h.printable));
       typed = h.typed;
       resolved = h.resolved;
     }
 
 -- what a function gives that has the text of this program
-pub typed_answer : (kept shown : Program) (r : Result (Vec ℕ) AllocError) → IsCheckedMerge kept → shown ≡ kept → IfOk r (λ text. text.items ≡ program_text shown)
+pub typed_answer : (kept : TypedProgram) (shown : Program) (r : Result (Vec ℕ) AllocError) → IsCheckedMerge kept → shown ≡ kept.program → IfOk r (λ text. text.items ≡ program_text shown)
     → IfOk r (λ text. ChecksAs text.items kept)
 typed_answer kept shown (Ok text) h same is = subst (λ (z : Bytes). ChecksAs z kept) (sym (is ∙ ap program_text same)) (checks_again kept h)
 typed_answer kept shown (Err e) h same is = tt

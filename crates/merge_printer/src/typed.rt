@@ -21,7 +21,7 @@ use std::alloc::{AllocError, Global};
 /// is at most 72 high and has at most 72 brackets open at once. The only error is want of memory.
 pub fn print(alloc: Global, program: &Typed) -> Result<Vec<u8>, AllocError>
     requires { IsCheckedMerge program.now }
-    ensures text { IfOk result (λ text. text.items ≡ program_text program.now) }
+    ensures text { IfOk result (λ text. text.items ≡ program_text program.now.program) }
     ensures checked { IfOk result (λ text. ChecksAs text.items program.now) }
 {
     program::program_text(alloc, program.program())

@@ -93,11 +93,11 @@ pub fn replay_plain(
     steps: u32,
 ) -> Result<Replay, RunError>
     ensures events { IfOk result (λ replay.
-        replay.events.items ≡ events program.now answers.now steps) }
+        replay.events.items ≡ events program.now.program answers.now steps) }
     ensures close { IfOk result (λ replay.
-        IsPlainClose program.now answers.now steps replay.close) }
-    ensures shallow { OnOk result (StaysShallow program.now answers.now steps) }
-    ensures deep { IsErrOf result RunError.Deep → GetsDeep program.now answers.now steps }
+        IsPlainClose program.now.program answers.now steps replay.close) }
+    ensures shallow { OnOk result (StaysShallow program.now.program answers.now steps) }
+    ensures deep { IsErrOf result RunError.Deep → GetsDeep program.now.program answers.now steps }
 {
     let mut machine = Machine::new(alloc, program)?;
     let mut answers = Answers::new(Vec::from_slice(alloc, answers)?);

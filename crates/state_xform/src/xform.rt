@@ -1,6 +1,8 @@
 //! Typed transformers.
 
 ghost use Rattle.std.specs.Prelude.{◌≡◌};
+ghost use Rattle.c_grammar.specs.Written.{IsWritten};
+ghost use Rattle.c_lang.specs.declared.unit.Unit.TheVariants as unit;
 ghost use Rattle.state_xform.specs.Kept.{IsChecked, IsKept};
 ghost use Rattle.version_names.specs.Parts.{IsLinked};
 
@@ -11,7 +13,8 @@ use std::alloc::Global;
 use std::marker::Model;
 use version_names::Links;
 
-/// A program that is the resolved form of a transformer. Contracts see it as the program.
+/// A program that is the resolved form of a transformer, which was written in unit xform. Contracts
+/// see it as the program.
 #[derive(Debug, Drop)]
 pub struct Xform {
     program: Program,
@@ -45,8 +48,8 @@ impl Xform {
     }
 }
 
-/// Checks a program as the transformer of the first program to the second one, whose links are given.
-/// It names what both have by its name, and what one alone has behind `dsu_old_` or `dsu_new_`. The
+/// Checks a program of unit xform, which is written in it, as the transformer of the first program to
+/// the second one, whose links are given. It names what both have by its name, and what one alone has behind `dsu_old_` or `dsu_new_`. The
 /// answer is the program in its resolved form. Errors: the first refusal (7 to 12, 14, 15, 19 and 27;
 /// then 13 at line 1 where there is no `void dsu_transform(void)`; then 18 at `dsu_transform`, with the
 /// first changed global that isn't set), and want of memory.
@@ -57,8 +60,9 @@ pub fn check_xform(
     links: &Links,
     program: Program,
 ) -> Result<Xform, Fail>
-    requires { IsLinked first.now second.now links.now }
-    ensures { IsChecked first.now second.now program result }
+    requires linked { IsLinked first.now.program second.now.program links.now }
+    requires written { IsWritten unit.Xform program }
+    ensures { IsChecked first.now.program second.now.program program result }
 {
     match check_program(alloc, first.program(), second.program(), links, program) {
         Ok(program) => Ok(Xform { program }),

@@ -127,7 +127,7 @@ fn link_programs(alloc: Global, first: &Program, second: &Program) -> Result<Lin
 
 /// The links of an old and a new program. The only error is want of memory.
 pub fn link(alloc: Global, first: &Typed, second: &Typed) -> Result<Links, AllocError>
-    ensures { IfOk result (λ links. spec.IsLinked first.now second.now links) }
+    ensures { IfOk result (λ links. spec.IsLinked first.now.program second.now.program links) }
 {
     link_programs(alloc, first.program(), second.program())
 }

@@ -16,7 +16,7 @@ make_steps-requires c =
 
 pub returns-clause-deep : goal.returns-clause-deep
 returns-clause-deep c = λ deep.
-    subst (λ (a : List ℤ). GetsDeep c.args.program.now a c.args.steps) (c.new-answers.ensures ∙ c.in_ok-from_slice.ensures.items)
+    subst (λ (a : List ℤ). GetsDeep c.args.program.now.program a c.args.steps) (c.new-answers.ensures ∙ c.in_ok-from_slice.ensures.items)
     (subst (λ (P : Program). GetsDeep P c.new-answers.result c.args.steps) c.in_ok-machine.ensures.program
     (c.in-Err.ensures.deep (IsErrOf-other c.in-Err.error Deep deep)))
 
@@ -32,6 +32,6 @@ pub returns-in-Ok-clause-close : goal.returns-in-Ok-clause-close
 returns-in-Ok-clause-close c =
     let m = c.make_steps.new.machine in
     let after = after_for c.in_ok-machine.ensures.program (c.new-answers.ensures ∙ c.in_ok-from_slice.ensures.items) c.in-Ok.ensures.after in
-    closes c.args.program.now c.args.answers.now c.args.steps m c.make_steps.new.answers c.make_steps.new.events.items c.in_ok-close-in-Ok.close after
+    closes c.args.program.now.program c.args.answers.now c.args.steps m c.make_steps.new.answers c.make_steps.new.events.items c.in_ok-close-in-Ok.close after
     (subst (λ (es : List Event). IsClose (step (program_of m) (config_of m)) c.make_steps.new.answers es c.in_ok-close-in-Ok.close) c.deref.ensures.value
     c.in_ok-close-in-Ok.ensures)
