@@ -1,4 +1,4 @@
-use Rattle.std.proofs.Common.{◌≡◌, Err}
+use Rattle.std.proofs.Common.{◌≡◌, Err, arith}
 use Rattle.std.proofs.lemmas.Result.{err_from_is_err_and}
 use Rattle.top_call.proofs.TypedTextLemmas.{tokens-refused, grammar-refused, checked, source-only, checked-only}
 use Rattle.top_call.proofs.typed_text.typed_text.Goals as goal
@@ -42,4 +42,5 @@ returns-clause-only c = λ program is.
 pub check-requires : goal.check-requires
 check-requires c =
     let given = rw c.deref.ensures.value at c.in_ok-program.ensures.written in
-    given (≤_eq c.height_limit.ensures) c.in_ok-tokens.ensures.given
+    let limit = c.height_limit.ensures in
+    given (omega arith) c.in_ok-tokens.ensures.given
