@@ -80,14 +80,16 @@ fn copied_form(alloc: Global, form: &Form) -> Result<Form, AllocError>
     match form {
         Form::True => Ok(Form::True),
         Form::False => Ok(Form::False),
-        Form::Le(left, right) => Ok(Form::Le(
-            copied_term(alloc, left)?,
-            copied_term(alloc, right)?,
-        )),
-        Form::Eq(left, right) => Ok(Form::Eq(
-            copied_term(alloc, left)?,
-            copied_term(alloc, right)?,
-        )),
+        Form::Le(left, right) => {
+            let left = Boxed::new(alloc, copied_term(alloc, left)?)?;
+            let right = Boxed::new(alloc, copied_term(alloc, right)?)?;
+            Ok(Form::Le(left.into_inner(), right.into_inner()))
+        }
+        Form::Eq(left, right) => {
+            let left = Boxed::new(alloc, copied_term(alloc, left)?)?;
+            let right = Boxed::new(alloc, copied_term(alloc, right)?)?;
+            Ok(Form::Eq(left.into_inner(), right.into_inner()))
+        }
         Form::Not(inner) => Ok(Form::Not(boxed_form(alloc, inner)?)),
         Form::And(left, right) => Ok(Form::And(
             boxed_form(alloc, left)?,
@@ -131,12 +133,17 @@ impl Fact {
     {
         match self {
             Fact::Plain(form) => Ok(Fact::Plain(form.copy(alloc)?)),
-            Fact::All { var, lo, hi, body } => Ok(Fact::All {
-                var: var.copy(alloc)?,
-                lo: lo.copy(alloc)?,
-                hi: hi.copy(alloc)?,
-                body: body.copy(alloc)?,
-            }),
+            Fact::All { var, lo, hi, body } => {
+                let lo = Boxed::new(alloc, lo.copy(alloc)?)?;
+                let hi = Boxed::new(alloc, hi.copy(alloc)?)?;
+                let body = Boxed::new(alloc, body.copy(alloc)?)?;
+                Ok(Fact::All {
+                    var: var.copy(alloc)?,
+                    lo: lo.into_inner(),
+                    hi: hi.into_inner(),
+                    body: body.into_inner(),
+                })
+            }
         }
     }
 }

@@ -121,14 +121,16 @@ fn replaced_in_form(alloc: Global, form: &Form, by: &Replacement) -> Result<Form
     match form {
         Form::True => Ok(Form::True),
         Form::False => Ok(Form::False),
-        Form::Le(left, right) => Ok(Form::Le(
-            replaced_in_term(alloc, left, by)?,
-            replaced_in_term(alloc, right, by)?,
-        )),
-        Form::Eq(left, right) => Ok(Form::Eq(
-            replaced_in_term(alloc, left, by)?,
-            replaced_in_term(alloc, right, by)?,
-        )),
+        Form::Le(left, right) => {
+            let left = Boxed::new(alloc, replaced_in_term(alloc, left, by)?)?;
+            let right = Boxed::new(alloc, replaced_in_term(alloc, right, by)?)?;
+            Ok(Form::Le(left.into_inner(), right.into_inner()))
+        }
+        Form::Eq(left, right) => {
+            let left = Boxed::new(alloc, replaced_in_term(alloc, left, by)?)?;
+            let right = Boxed::new(alloc, replaced_in_term(alloc, right, by)?)?;
+            Ok(Form::Eq(left.into_inner(), right.into_inner()))
+        }
         Form::Not(inner) => Ok(Form::Not(boxed_form(alloc, inner, by)?)),
         Form::And(left, right) => Ok(Form::And(
             boxed_form(alloc, left, by)?,
@@ -195,12 +197,17 @@ fn replaced_in_fact(alloc: Global, fact: &Fact, by: &Replacement) -> Result<Fact
 {
     match fact {
         Fact::Plain(form) => Ok(Fact::Plain(replaced_in_form(alloc, form, by)?)),
-        Fact::All { var, lo, hi, body } => Ok(Fact::All {
-            var: var.copy(alloc)?,
-            lo: replaced_in_term(alloc, lo, by)?,
-            hi: replaced_in_term(alloc, hi, by)?,
-            body: replaced_below(alloc, var, body, by)?,
-        }),
+        Fact::All { var, lo, hi, body } => {
+            let lo = Boxed::new(alloc, replaced_in_term(alloc, lo, by)?)?;
+            let hi = Boxed::new(alloc, replaced_in_term(alloc, hi, by)?)?;
+            let body = Boxed::new(alloc, replaced_below(alloc, var, body, by)?)?;
+            Ok(Fact::All {
+                var: var.copy(alloc)?,
+                lo: lo.into_inner(),
+                hi: hi.into_inner(),
+                body: body.into_inner(),
+            })
+        }
     }
 }
 
