@@ -11,27 +11,34 @@ use terms::{
     subst_row,
 };
 
+fn numbers(alloc: Global) -> Result<Items<(Sym, i128)>, CaseError> {
+    let mut numbers = Items::new(alloc);
+    for (name, number) in [("x", 7), ("y", -2), ("x", 8), ("x1", 9)] {
+        numbers.push((symbol(alloc, name)?, number))?;
+    }
+    Ok(numbers)
+}
+
+fn arrays(alloc: Global) -> Result<Items<(Sym, Items<(i128, i128)>)>, CaseError> {
+    let mut arrays = Items::new(alloc);
+    let pairs = Items::from_slice(alloc, &[(0, 5), (-1, 6), (0, 4)])?;
+    arrays.push((symbol(alloc, "A")?, pairs))?;
+    Ok(arrays)
+}
+
 /// What the names of the cases stand for: x is 7, y is -2 and x1 is 9; A holds 5 at 0 and 6 at -1.
 /// The second pairs of x and of A at 0 don't count.
-fn valuation(alloc: Global) -> Result<Valuation, CaseError> {
-    let mut wholes = Vec::new(alloc);
-    for (name, number) in [("x", 7), ("y", -2), ("x", 8), ("x1", 9)] {
-        wholes.push((symbol(alloc, name)?, number))?;
-    }
-    let mut rows = Vec::new(alloc);
-    let pairs = Items::from_slice(alloc, &[(0, 5), (-1, 6), (0, 4)])?;
-    rows.push((symbol(alloc, "A")?, pairs))?;
-    Ok(Valuation {
-        wholes: Items::from_vec(wholes),
-        rows: Items::from_vec(rows),
-    })
+fn valuation(alloc: Global) -> Result<Boxed<Valuation>, CaseError> {
+    let wholes = numbers(alloc)?;
+    let rows = arrays(alloc)?;
+    Ok(Boxed::new(alloc, Valuation { wholes, rows })?)
 }
 
 /// Whether a form is true at the valuation.
 pub fn holds(alloc: Global, text: &str) -> Result<String, CaseError> {
     let at = valuation(alloc)?;
     let form = form(alloc, text)?;
-    let said = match holds_at(form.get(), &at) {
+    let said = match holds_at(form.get(), at.get()) {
         Some(true) => "true",
         Some(false) => "false",
         None => "none",
@@ -42,7 +49,7 @@ pub fn holds(alloc: Global, text: &str) -> Result<String, CaseError> {
 /// The number that a name stands for.
 pub fn listed_number(alloc: Global, name: &str) -> Result<String, CaseError> {
     let at = valuation(alloc)?;
-    match at.number(&symbol(alloc, name)?) {
+    match at.get().number(&symbol(alloc, name)?) {
         Some(number) => Ok(format!(in alloc; "{number}")?),
         None => Ok(String::from_str(alloc, "none")?),
     }
@@ -51,7 +58,7 @@ pub fn listed_number(alloc: Global, name: &str) -> Result<String, CaseError> {
 /// How many pairs the array has that a name stands for.
 pub fn listed_array(alloc: Global, name: &str) -> Result<String, CaseError> {
     let at = valuation(alloc)?;
-    match at.row(&symbol(alloc, name)?) {
+    match at.get().row(&symbol(alloc, name)?) {
         Some(pairs) => Ok(format!(in alloc; "{}", pairs.len())?),
         None => Ok(String::from_str(alloc, "none")?),
     }

@@ -9,17 +9,26 @@ use linear_rows::{Row, RowFail, add_times};
 use sqlite_items::Items;
 use std::alloc::{AllocError, Global};
 
-fn read_row(alloc: Global, text: &str) -> Result<Row, CaseError> {
-    let (sum, bound) = text.split_once("= ").ok_or(CaseError::Malformed)?;
+// A coefficient and its atom, as `3*x0`.
+fn read_part(word: &str) -> Result<(u32, i128), CaseError> {
+    let (coefficient, atom) = word.split_once("*x").ok_or(CaseError::Malformed)?;
+    Ok((atom.parse::<u32>()?, coefficient.parse::<i128>()?))
+}
+
+fn read_sum(alloc: Global, sum: &str) -> Result<Items<(u32, i128)>, CaseError> {
     let mut parts = Items::new(alloc);
     for word in sum.split_whitespace() {
-        if let Some((coefficient, atom)) = word.split_once("*x") {
-            parts.push((atom.parse::<u32>()?, coefficient.parse::<i128>()?))?;
-        }
+        parts.push(read_part(word)?)?;
     }
+    Ok(parts)
+}
+
+fn read_row(alloc: Global, text: &str) -> Result<Row, CaseError> {
+    let (sum, bound) = text.split_once("= ").ok_or(CaseError::Malformed)?;
+    let bound = bound.trim_end().parse::<i128>()?;
     Ok(Row {
-        parts,
-        bound: bound.trim_end().parse::<i128>()?,
+        parts: read_sum(alloc, sum.trim_end_matches('<'))?,
+        bound,
         equal: !sum.ends_with('<'),
     })
 }
