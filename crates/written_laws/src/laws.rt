@@ -1,0 +1,39 @@
+ghost use Rattle.c_lang.specs.declared.unit.Unit.{Unit};
+ghost use Rattle.c_lang.specs.declared.program.Program.{Program};
+ghost use Rattle.c_grammar.specs.Written.{IsWritten};
+ghost use Rattle.c_types.specs.Types.{Types};
+ghost use Rattle.written_laws.specs.Breaks.{BreaksStandInLoops};
+ghost use Rattle.written_laws.specs.Destinations.{ResultsGoToLocals, ResultsGoToNoGlobals};
+ghost use Rattle.written_laws.specs.Literals.{LiteralsAreInts};
+ghost use Rattle.written_laws.specs.SourceNames.{NamesAreWords};
+
+/// In a program that is written in a unit each `break` stands inside a loop.
+pub fn breaks_stand_in_loops()
+    ensures { (unit : Unit) (program : Program) → IsWritten unit program → BreaksStandInLoops program }
+{}
+
+/// In a program that is written in a unit the result of a call, an input or a choice that goes to
+/// a name which stands already goes to a parameter or a local that is declared before. A client's
+/// picks are left out: their calls may go to any name.
+pub fn results_go_to_locals()
+    ensures { (unit : Unit) (program : Program) → IsWritten unit program → ResultsGoToLocals program }
+{}
+
+/// So in one that is typed too, no global has the name that the result of a call, an input or a
+/// choice goes to.
+pub fn results_go_to_no_globals()
+    ensures { (unit : Unit) (program : Program) → IsWritten unit program → Types unit program → ResultsGoToNoGlobals program }
+{}
+
+/// In a program that is written in a unit each literal is from 0 to 2147483647, and each initial
+/// value from -2147483647 to 2147483647.
+pub fn literals_are_ints()
+    ensures { (unit : Unit) (program : Program) → IsWritten unit program → LiteralsAreInts program }
+{}
+
+/// In a program that is written in a unit each name is an identifier that a text of the unit can
+/// have, or a temporary of the parser, which is no token. Temporaries are locals, and stand in
+/// expressions.
+pub fn names_are_words()
+    ensures { (unit : Unit) (program : Program) → IsWritten unit program → NamesAreWords unit program }
+{}
