@@ -69,15 +69,15 @@ fn puts_to_standard_output(rt: HostRuntime) {
     assert!(rt; out.put(b"a piece\n").is_ok());
 }
 
-// Put number 1 fails after two bytes, and the last one finds room for three.
+// Put number 1 fails after two bytes, and for the last byte of the last piece no room is left.
 #[test]
 fn puts_to_memory(rt: HostRuntime) -> Result<(), AllocError> {
     let room = vec![in rt.alloc(); 0u8; 8]?;
     let mut sink = MemSink::new(room, vec![in rt.alloc(); (1, 2)]?);
     assert!(rt; sink.put(b"one").is_ok());
     assert!(rt; sink.put(b"two").is_err());
-    assert!(rt; sink.put(b"three").is_err());
-    assert_eq!(rt; sink.bytes(), b"onetwthr".as_slice());
+    assert!(rt; sink.put(b"four").is_err());
+    assert_eq!(rt; sink.bytes(), b"onetwfou".as_slice());
     Ok(())
 }
 

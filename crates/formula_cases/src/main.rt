@@ -5,12 +5,13 @@
 //! `#` are printed as they stand.
 #![tactic(auto)]
 
+mod case_error;
 mod formulas;
 mod notation;
 mod reading;
 mod rows;
 
-use anyhow::{Result, bail};
+use case_error::CaseError;
 use std::alloc::Global;
 
 // The two halves of what stands round the first ` : `.
@@ -18,7 +19,7 @@ pub fn halves(text: &str) -> (&str, &str) {
     text.split_once(" : ").unwrap_or((text, ""))
 }
 
-fn answer(alloc: Global, line: &str) -> Result<String> {
+fn answer(alloc: Global, line: &str) -> Result<String, CaseError> {
     if line.is_empty() || line.starts_with('#') {
         return Ok(String::from_str(alloc, line)?);
     }
@@ -36,11 +37,11 @@ fn answer(alloc: Global, line: &str) -> Result<String> {
         "add" => rows::added(alloc, parts),
         "refute" => rows::refuted(alloc, parts),
         "refute_diff" => rows::refuted_differences(alloc, parts),
-        _ => bail!("no such command: {command}"),
+        _ => Err(CaseError::Malformed),
     }
 }
 
-fn main(rt: HostRuntime) -> Result<()> {
+fn main(rt: HostRuntime) -> anyhow::Result<()> {
     for line in rt.lines(rt.alloc()) {
         let answer = answer(rt.alloc(), line?.as_str())?;
         println!(rt; "{answer}")?;

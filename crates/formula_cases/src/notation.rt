@@ -4,10 +4,23 @@ use std::alloc::AllocError;
 use std::str;
 use terms::{ArrayTerm, Fact, Form, Sym, Term};
 
-// A word behind a space.
+// A space, where something stands before it.
+fn put_space(out: &mut String) -> Result<(), AllocError> {
+    if out.is_empty() {
+        Ok(())
+    } else {
+        out.push_str(" ")
+    }
+}
+
 fn put_word(out: &mut String, word: &str) -> Result<(), AllocError> {
-    out.push_str(" ")?;
+    put_space(out)?;
     out.push_str(word)
+}
+
+fn put_number(out: &mut String, number: i128) -> Result<(), AllocError> {
+    put_space(out)?;
+    write!(out, "{number}")
 }
 
 pub fn put_name(name: &Sym, out: &mut String) -> Result<(), AllocError> {
@@ -21,7 +34,7 @@ pub fn put_name(name: &Sym, out: &mut String) -> Result<(), AllocError> {
 #[cycle(written)]
 pub fn put_term(term: &Term, out: &mut String) -> Result<(), AllocError> {
     let (left, right, sign) = match term {
-        Term::Num(number) => return write!(out, " {number}"),
+        Term::Num(number) => return put_number(out, *number),
         Term::Of(name) => return put_name(name, out),
         Term::Read(array, index) => {
             put_array(array.get(), out)?;

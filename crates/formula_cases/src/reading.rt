@@ -1,8 +1,8 @@
 //! Formulas are written in postfix: `x 1 + A i [] <=` is `x + 1 <= A[i]`. Arrays have capital letters,
 //! and a name's count is its last digit.
 
+use crate::case_error::CaseError;
 use crate::halves;
-use anyhow::{Context, Result};
 use c_lang::Name;
 use sqlite_items::Boxed;
 use std::alloc::Global;
@@ -18,7 +18,7 @@ struct Stacks {
 }
 
 /// A name, as `x`, or `x2` with the count 2.
-pub fn symbol(alloc: Global, word: &str) -> Result<Sym> {
+pub fn symbol(alloc: Global, word: &str) -> Result<Sym, CaseError> {
     let base = word.trim_end_matches(|c: char| c.is_ascii_digit());
     let count = word.strip_prefix(base).unwrap_or("");
     Ok(Sym {
@@ -37,19 +37,19 @@ impl Stacks {
         }
     }
 
-    fn term(&mut self) -> Result<Boxed<Term>> {
-        self.terms.pop().context("a term is missing")
+    fn term(&mut self) -> Result<Boxed<Term>, CaseError> {
+        self.terms.pop().ok_or(CaseError::Malformed)
     }
 
-    fn array(&mut self) -> Result<Boxed<ArrayTerm>> {
-        self.arrays.pop().context("an array is missing")
+    fn array(&mut self) -> Result<Boxed<ArrayTerm>, CaseError> {
+        self.arrays.pop().ok_or(CaseError::Malformed)
     }
 
-    fn form(&mut self) -> Result<Boxed<Form>> {
-        self.forms.pop().context("a form is missing")
+    fn form(&mut self) -> Result<Boxed<Form>, CaseError> {
+        self.forms.pop().ok_or(CaseError::Malformed)
     }
 
-    fn operation(&mut self, word: &str) -> Result<Boxed<Term>> {
+    fn operation(&mut self, word: &str) -> Result<Boxed<Term>, CaseError> {
         let right = self.term()?;
         let left = self.term()?;
         let made = match word {
@@ -62,25 +62,25 @@ impl Stacks {
         Ok(made?)
     }
 
-    fn element(&mut self) -> Result<Boxed<Term>> {
+    fn element(&mut self) -> Result<Boxed<Term>, CaseError> {
         let index = self.term()?;
         let array = self.array()?;
         Ok(Boxed::new(self.alloc, Term::Read(array, index))?)
     }
 
-    fn truth(&mut self) -> Result<Boxed<Term>> {
+    fn truth(&mut self) -> Result<Boxed<Term>, CaseError> {
         let form = self.form()?;
         Ok(Boxed::new(self.alloc, Term::Truth(form))?)
     }
 
-    fn store(&mut self) -> Result<Boxed<ArrayTerm>> {
+    fn store(&mut self) -> Result<Boxed<ArrayTerm>, CaseError> {
         let value = self.term()?;
         let index = self.term()?;
         let array = self.array()?;
         Ok(Boxed::new(self.alloc, ArrayTerm::Store(array, index, value))?)
     }
 
-    fn comparison(&mut self, word: &str) -> Result<Boxed<Form>> {
+    fn comparison(&mut self, word: &str) -> Result<Boxed<Form>, CaseError> {
         let right = self.term()?;
         let left = self.term()?;
         let made = match word {
@@ -90,7 +90,7 @@ impl Stacks {
         Ok(made?)
     }
 
-    fn junction(&mut self, word: &str) -> Result<Boxed<Form>> {
+    fn junction(&mut self, word: &str) -> Result<Boxed<Form>, CaseError> {
         let right = self.form()?;
         let left = self.form()?;
         let made = match word {
@@ -100,13 +100,13 @@ impl Stacks {
         Ok(made?)
     }
 
-    fn negation(&mut self) -> Result<Boxed<Form>> {
+    fn negation(&mut self) -> Result<Boxed<Form>, CaseError> {
         let form = self.form()?;
         Ok(Boxed::new(self.alloc, Form::Not(form))?)
     }
 
     // A number, or a name of a number or an array.
-    fn read_leaf(&mut self, word: &str) -> Result<()> {
+    fn read_leaf(&mut self, word: &str) -> Result<(), CaseError> {
         if let Ok(number) = word.parse::<i128>() {
             self.terms.push(Boxed::new(self.alloc, Term::Num(number))?)?;
             return Ok(());
@@ -121,7 +121,7 @@ impl Stacks {
         Ok(())
     }
 
-    fn read_term(&mut self, word: &str) -> Result<()> {
+    fn read_term(&mut self, word: &str) -> Result<(), CaseError> {
         let made = match word {
             "[]" => self.element()?,
             "?" => self.truth()?,
@@ -130,12 +130,12 @@ impl Stacks {
         Ok(self.terms.push(made)?)
     }
 
-    fn read_array(&mut self) -> Result<()> {
+    fn read_array(&mut self) -> Result<(), CaseError> {
         let made = self.store()?;
         Ok(self.arrays.push(made)?)
     }
 
-    fn read_form(&mut self, word: &str) -> Result<()> {
+    fn read_form(&mut self, word: &str) -> Result<(), CaseError> {
         let made = match word {
             "true" => Boxed::new(self.alloc, Form::True)?,
             "false" => Boxed::new(self.alloc, Form::False)?,
@@ -146,7 +146,7 @@ impl Stacks {
         Ok(self.forms.push(made)?)
     }
 
-    fn read(&mut self, text: &str) -> Result<()> {
+    fn read(&mut self, text: &str) -> Result<(), CaseError> {
         for word in text.split_whitespace() {
             match word {
                 "+" | "-" | "*" | "/" | "%" | "[]" | "?" => self.read_term(word)?,
@@ -159,26 +159,26 @@ impl Stacks {
     }
 }
 
-pub fn term(alloc: Global, text: &str) -> Result<Boxed<Term>> {
+pub fn term(alloc: Global, text: &str) -> Result<Boxed<Term>, CaseError> {
     let mut stacks = Stacks::new(alloc);
     stacks.read(text)?;
     stacks.term()
 }
 
-pub fn array(alloc: Global, text: &str) -> Result<Boxed<ArrayTerm>> {
+pub fn array(alloc: Global, text: &str) -> Result<Boxed<ArrayTerm>, CaseError> {
     let mut stacks = Stacks::new(alloc);
     stacks.read(text)?;
     stacks.array()
 }
 
-pub fn form(alloc: Global, text: &str) -> Result<Boxed<Form>> {
+pub fn form(alloc: Global, text: &str) -> Result<Boxed<Form>, CaseError> {
     let mut stacks = Stacks::new(alloc);
     stacks.read(text)?;
     stacks.form()
 }
 
 /// A form, or a fact about a range by its parts: `k : 0 : x : A k [] x <=`.
-pub fn fact(alloc: Global, text: &str) -> Result<Boxed<Fact>> {
+pub fn fact(alloc: Global, text: &str) -> Result<Boxed<Fact>, CaseError> {
     let (name, range) = halves(text);
     if range.is_empty() {
         return Ok(Boxed::new(alloc, Fact::Plain(form(alloc, text)?.into_inner()))?);

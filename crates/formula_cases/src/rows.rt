@@ -1,16 +1,16 @@
 //! What the calls on rows answer. A row is written as `3*x0 -1*x2 <= 5`, and a row on a difference as
 //! `0 1 <= -1`, which is `x0 - x1 <= -1`; `-` is a missing side. Several rows have `;` between them.
 
+use crate::case_error::CaseError;
 use crate::halves;
-use anyhow::{Context, Result};
 use diff_certs::{DiffLeaf, DiffRow, are_inside, refute_diff};
 use linear_certs::{Leaf, are_given, refute};
 use linear_rows::{Row, RowFail, add_times};
 use sqlite_items::Items;
 use std::alloc::{AllocError, Global};
 
-fn read_row(alloc: Global, text: &str) -> Result<Row> {
-    let (sum, bound) = text.split_once("= ").context("a row has no bound")?;
+fn read_row(alloc: Global, text: &str) -> Result<Row, CaseError> {
+    let (sum, bound) = text.split_once("= ").ok_or(CaseError::Malformed)?;
     let mut parts = Items::new(alloc);
     for word in sum.split_whitespace() {
         if let Some((coefficient, atom)) = word.split_once("*x") {
@@ -46,7 +46,7 @@ fn sum_of(alloc: Global, left: &Row, times: i128, right: &Row) -> Result<String,
 }
 
 /// `ROW : TIMES : ROW`, the first row and so many times the second one.
-pub fn added(alloc: Global, parts: &str) -> Result<String> {
+pub fn added(alloc: Global, parts: &str) -> Result<String, CaseError> {
     let (left, rest) = halves(parts);
     let (times, right) = halves(rest);
     let left = read_row(alloc, left)?;
@@ -86,7 +86,7 @@ fn leaf_text(alloc: Global, leaf: &Leaf) -> Result<String, AllocError> {
 }
 
 /// What the elimination of rows comes to.
-pub fn refuted(alloc: Global, parts: &str) -> Result<String> {
+pub fn refuted(alloc: Global, parts: &str) -> Result<String, CaseError> {
     let mut rows = Vec::new(alloc);
     for text in parts.split_terminator(';') {
         rows.push(read_row(alloc, text)?)?;
@@ -97,19 +97,19 @@ pub fn refuted(alloc: Global, parts: &str) -> Result<String> {
     Ok(leaf_text(alloc, &refute(alloc, &rows))?)
 }
 
-fn read_side(word: &str) -> Result<Option<u32>> {
+fn read_side(word: &str) -> Result<Option<u32>, CaseError> {
     match word {
         "-" => Ok(None),
         _ => Ok(Some(word.parse::<u32>()?)),
     }
 }
 
-fn read_difference(text: &str) -> Result<DiffRow> {
-    let (sides, bound) = text.split_once(" <= ").context("a row has no bound")?;
+fn read_difference(text: &str) -> Result<DiffRow, CaseError> {
+    let (sides, bound) = text.split_once(" <= ").ok_or(CaseError::Malformed)?;
     let (left, right) = sides
         .trim_start()
         .split_once(' ')
-        .context("a row has two sides")?;
+        .ok_or(CaseError::Malformed)?;
     Ok(DiffRow {
         left: read_side(left)?,
         right: read_side(right)?,
@@ -135,7 +135,7 @@ fn decision_text(alloc: Global, leaf: DiffLeaf) -> Result<String, AllocError> {
 }
 
 /// Whether some integers satisfy rows on differences.
-pub fn refuted_differences(alloc: Global, parts: &str) -> Result<String> {
+pub fn refuted_differences(alloc: Global, parts: &str) -> Result<String, CaseError> {
     let mut rows = Vec::new(alloc);
     for text in parts.split_terminator(';') {
         rows.push(read_difference(text)?)?;

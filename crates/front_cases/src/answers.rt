@@ -1,7 +1,7 @@
 //! What each command answers.
 
 use anyhow::{Result, bail};
-use c_lang::{Expr, Fail, Program, Stmt, Unit};
+use c_lang::{Expr, Fail, Program, Stmt, Unit, height_limit};
 use c_lexer::{Token, Word, lex};
 use c_parser::parse;
 use c_types::{Typed, check};
@@ -27,17 +27,14 @@ pub fn answer(alloc: Global, command: &str, unit: Unit, text: &[u8]) -> Result<S
 fn shown(alloc: Global, answer: Result<String, Fail>) -> Result<String, AllocError> {
     match answer {
         Ok(found) => Ok(found),
-        Err(Fail::Refused(why)) => {
-            format!(in alloc; "refused {} {}:{}", why.number, why.pos.unit, why.pos.line)
-        }
+        Err(Fail::Refused(why)) => format!(in alloc; "{why}"),
         Err(Fail::NoMemory) => Err(AllocError),
     }
 }
 
 fn program_of(alloc: Global, unit: Unit, text: &[u8]) -> Result<Program, Fail> {
-    let deep = if unit == Unit::Merge { 72 } else { 64 };
     let tokens = lex(alloc, unit, text)?;
-    parse(alloc, unit, deep, &tokens)
+    parse(alloc, unit, height_limit(unit), &tokens)
 }
 
 fn typed(alloc: Global, unit: Unit, text: &[u8]) -> Result<Typed, Fail> {

@@ -1,15 +1,15 @@
 //! Cases of the front end: lexer, parser, printer and typing.
 //!
 //! Each line of `stdin` is a case, and the line of `stdout` with the same number is its answer. A case
-//! is a command, a unit and a text, as in `check old int a;`. An empty line and one that begins with
-//! `#` are printed as they stand.
+//! is a command, a unit and a text, as in `check old int a;`, where the text is as `case_texts` has it.
+//! An empty line and one that begins with `#` are printed as they stand.
 #![tactic(auto)]
 
 mod answers;
-mod texts;
 
 use anyhow::{Context, Result};
 use c_lang::Unit;
+use case_texts::text_of;
 use std::alloc::Global;
 
 fn unit_of(word: &str) -> Option<Unit> {
@@ -30,7 +30,7 @@ fn answer(alloc: Global, line: &str) -> Result<String> {
     let (command, rest) = line.split_once(' ').context("a line has no unit")?;
     let (word, written) = rest.split_once(' ').unwrap_or((rest, ""));
     let unit = unit_of(word).context("no such unit")?;
-    let text = texts::text_of(alloc, written)?;
+    let text = text_of(alloc, written)?;
     answers::answer(alloc, command, unit, &text)
 }
 

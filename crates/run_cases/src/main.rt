@@ -1,8 +1,8 @@
 //! Cases of the plain machine, of links, of update points and of transformers.
 //!
 //! Each line of `stdin` has a line of `stdout` with the same number. A line `old TEXT`, `new TEXT`,
-//! `client TEXT` or `merged TEXT` sets a text for the cases below it; in a text, `\n` is the end of a
-//! line. Such a line, an empty line and one that begins with `#` are printed as they stand. Every other
+//! `client TEXT` or `merged TEXT` sets a text for the cases below it; a text is as `case_texts` has it.
+//! Such a line, an empty line and one that begins with `#` are printed as they stand. Every other
 //! line is a case, and its answer is printed.
 #![tactic(auto)]
 
@@ -11,29 +11,30 @@ mod runs;
 mod updates;
 
 use anyhow::{Context, Result, bail};
-use std::alloc::{AllocError, Global};
+use case_texts::text_of;
+use std::alloc::Global;
 
 /// The texts that the cases speak of.
 #[derive(Drop)]
 pub struct Texts {
-    old: String,
-    new: String,
-    client: String,
-    merged: String,
+    old: Vec<u8>,
+    new: Vec<u8>,
+    client: Vec<u8>,
+    merged: Vec<u8>,
 }
 
 impl Texts {
     fn new(alloc: Global) -> Texts {
         Texts {
-            old: String::new(alloc),
-            new: String::new(alloc),
-            client: String::new(alloc),
-            merged: String::new(alloc),
+            old: Vec::new(alloc),
+            new: Vec::new(alloc),
+            client: Vec::new(alloc),
+            merged: Vec::new(alloc),
         }
     }
 
-    fn set(&mut self, alloc: Global, word: &str, written: &str) -> Result<(), AllocError> {
-        let text = written.replace(alloc, "\\n", "\n")?;
+    fn set(&mut self, alloc: Global, word: &str, written: &str) -> Result<()> {
+        let text = text_of(alloc, written)?;
         match word {
             "old" => self.old = text,
             "new" => self.new = text,
@@ -50,13 +51,11 @@ fn answer(alloc: Global, texts: &Texts, command: &str, words: &str) -> Result<St
             let (steps, answers) = words
                 .split_once(' ')
                 .context("a run has steps and answers")?;
-            runs::replayed(alloc, texts.merged.as_str(), steps.parse::<u32>()?, answers)
+            runs::replayed(alloc, &texts.merged, steps.parse::<u32>()?, answers)
         }
-        "points" => { updates::points(alloc, texts.old.as_str(), texts.client.as_str(), words) }
-        "links" => updates::links(alloc, texts.old.as_str(), texts.new.as_str(), words),
-        "transform" => {
-            updates::transformed(alloc, texts.old.as_str(), texts.new.as_str(), words)
-        }
+        "points" => { updates::points(alloc, &texts.old, &texts.client, words) }
+        "links" => updates::links(alloc, &texts.old, &texts.new, words),
+        "transform" => { updates::transformed(alloc, &texts.old, &texts.new, words) }
         "name" => updates::merged(alloc, words),
         _ => bail!("no such command: {command}"),
     }

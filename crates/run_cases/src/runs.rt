@@ -39,14 +39,14 @@ fn outcome(
     }
 }
 
-fn run(alloc: Global, text: &str, answers: &[i32], steps: u32) -> Result<String, Fail> {
+fn run(alloc: Global, text: &[u8], answers: &[i32], steps: u32) -> Result<String, Fail> {
     let program = typed(alloc, Unit::Merge, text)?;
     Ok(outcome(alloc, &program, answers, steps)?)
 }
 
 /// The events of a run with these answers, `none` or numbers with commas between them, and how it
 /// stands after the steps.
-pub fn replayed(alloc: Global, text: &str, steps: u32, answers: &str) -> Result<String> {
+pub fn replayed(alloc: Global, text: &[u8], steps: u32, answers: &str) -> Result<String> {
     let mut list = Vec::new(alloc);
     if answers != "none" {
         for word in answers.split(',') {

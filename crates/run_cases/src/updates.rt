@@ -4,6 +4,7 @@ use crate::programs::{parsed, shown, typed};
 use anyhow::{Context, Result, bail};
 use c_lang::{Fail, Name, Program, Unit};
 use c_types::Typed;
+use case_texts::text_of;
 use state_xform::check_xform;
 use std::alloc::{AllocError, Global};
 use std::str;
@@ -37,7 +38,7 @@ fn links_text(alloc: Global, links: &Links, name: &Name) -> Result<String, Alloc
     Ok(said)
 }
 
-fn links_of(alloc: Global, old: &str, new: &str, word: &str) -> Result<String, Fail> {
+fn links_of(alloc: Global, old: &[u8], new: &[u8], word: &str) -> Result<String, Fail> {
     let old = typed(alloc, Unit::Old, old)?;
     let new = typed(alloc, Unit::New, new)?;
     let links = link(alloc, &old, &new)?;
@@ -47,7 +48,7 @@ fn links_of(alloc: Global, old: &str, new: &str, word: &str) -> Result<String, F
 
 /// Where a name stands as a global of the old and of the new version, then as a function of both, and
 /// the first global that changed.
-pub fn links(alloc: Global, old: &str, new: &str, name: &str) -> Result<String> {
+pub fn links(alloc: Global, old: &[u8], new: &[u8], name: &str) -> Result<String> {
     Ok(shown(alloc, links_of(alloc, old, new, name))?)
 }
 
@@ -85,8 +86,8 @@ fn permitted(
 
 fn points_of(
     alloc: Global,
-    old: &str,
-    client: &str,
+    old: &[u8],
+    client: &[u8],
     listed: Option<&[u32]>,
 ) -> Result<String, Fail> {
     let old = parsed(alloc, Unit::Old, old)?;
@@ -99,7 +100,7 @@ fn points_of(
 
 /// Which of the points 1 to 4 may update, of the old version and of the client, where there is one.
 /// The list is `all`, `none` or numbers with commas between them.
-pub fn points(alloc: Global, old: &str, client: &str, list: &str) -> Result<String> {
+pub fn points(alloc: Global, old: &[u8], client: &[u8], list: &str) -> Result<String> {
     if list == "all" {
         return Ok(shown(alloc, points_of(alloc, old, client, None))?);
     }
@@ -118,14 +119,14 @@ fn checked(alloc: Global, old: &Typed, new: &Typed, program: Program) -> Result<
     Ok(format!(in alloc; "transformer {}", xform.program().funcs.len())?)
 }
 
-fn transformer(alloc: Global, old: &str, new: &str, text: &str) -> Result<String, Fail> {
+fn transformer(alloc: Global, old: &[u8], new: &[u8], text: &[u8]) -> Result<String, Fail> {
     let old = typed(alloc, Unit::Old, old)?;
     let new = typed(alloc, Unit::New, new)?;
     checked(alloc, &old, &new, parsed(alloc, Unit::Xform, text)?)
 }
 
 /// How many functions a transformer of the two versions has.
-pub fn transformed(alloc: Global, old: &str, new: &str, written: &str) -> Result<String> {
-    let text = written.replace(alloc, "\\n", "\n")?;
-    Ok(shown(alloc, transformer(alloc, old, new, text.as_str()))?)
+pub fn transformed(alloc: Global, old: &[u8], new: &[u8], written: &str) -> Result<String> {
+    let text = text_of(alloc, written)?;
+    Ok(shown(alloc, transformer(alloc, old, new, &text))?)
 }
