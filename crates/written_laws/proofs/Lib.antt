@@ -6,3 +6,6 @@ mod StatementFits
 mod ProgramFits
 mod TypedLocals
 mod WrittenLaws
+mod NameLaws
+mod PlainWalks
+mod KeptLaws

@@ -1,5 +1,5 @@
 -- Names are words of the unit.
-use Rattle.std.specs.Prelude.{⊤, ◌≡◌, ℕ, Bool, true, false, List, [], ◌∷◌, All, Option, Some, None}
+use Rattle.std.specs.Prelude.{⊤, ◌⊎◌, ◌≡◌, ◌==◌, ℕ, Bool, true, false, List, [], ◌∷◌, All, Option, Some, None}
 use Rattle.c_lang.specs.Names.{Bytes, is_word}
 use Rattle.c_lang.specs.Trees.{Expression, literal, variable, element, function, null, negation, logical_not, binary, Statement, skip, set, set_element, call, call_by, if_else, while_loop, break_loop, return_with, assert_that, input, output, point, choice, force, pick}
 use Rattle.c_lang.specs.declared.unit.Unit.{Unit}
@@ -12,7 +12,7 @@ use Rattle.c_lang.specs.declared.program.GlobalVar.{GlobalVar}
 use Rattle.c_lang.specs.declared.program.Proto.{Proto}
 use Rattle.c_lang.specs.declared.program.Func.{Func}
 use Rattle.c_lang.specs.declared.program.Program.{Program}
-use Rattle.c_grammar.specs.Words.{keyword_number, is_refused}
+use Rattle.c_grammar.specs.Words.{keyword_number, is_allowed, is_refused}
 use Rattle.c_grammar.specs.Scopes.{temporary}
 use Rattle.written_laws.specs.Walk.{Context, InBodies}
 
@@ -26,6 +26,17 @@ pub record IsWord (u : Unit) (x : Bytes) : Type 0 where
 pub data IsName (u : Unit) (x : Bytes) : Type 0 where
   word : IsWord u x → IsName u x
   made : (n : ℕ) → x ≡ temporary n → IsName u x
+
+abbrev pub dollar : ℕ
+dollar = 36
+
+abbrev pub begins_with : ℕ → Bytes → Bool
+begins_with byte [] = false
+begins_with byte (first ∷ rest) = first == byte
+
+-- a name that begins with `dsu_` is one that the unit allows, or a temporary
+abbrev pub IsReservedHere : Unit → Bytes → Type 0
+IsReservedHere u x = (is_allowed u x ≡ true) ⊎ ((n : ℕ) × (x ≡ temporary n))
 
 module _ (u : Unit) where
   abbrev pub HasNames : Expression → Type 0
