@@ -51,6 +51,6 @@ pub added-new : {S : Type 0} (table : IndexMap Bytes code.Means S) (entries : En
 added-new table entries new x m same inserted absent =
     let none : lookup (bytes_eq x) table.entries ≡ None = nothing (lookup (bytes_eq x) table.entries) absent in
     let is : map seen_entry new ≡ map seen_entry table.entries ++ (x, seen_means m) ∷ [] =
-      ap (map seen_entry) (inserted ∙ insert_entry-new bytes_eq table x m none) ∙ map-append seen_entry table.entries ((x, m) ∷ []) in
+    ap (map seen_entry) (inserted ∙ insert_entry-new bytes_eq table x m none) ∙ map-append seen_entry table.entries ((x, m) ∷ []) in
     let missing : is_some (found (map seen_entry table.entries) x) ≡ false = is_some_found table.entries x ∙ absent in
     rw (← same) (is ∙ sym (added-absent (map seen_entry table.entries) x (seen_means m) missing))
