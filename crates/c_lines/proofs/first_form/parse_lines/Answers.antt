@@ -10,4 +10,4 @@ returns-in-Ok c = record { answer = is_program c.args.unit c.args.bytes.now c.in
 pub returns-in-Err-OtherForm : goal.returns-in-Err-OtherForm
 returns-in-Err-OtherForm c =
     let none : program c.args.unit c.args.bytes.now ≡ None = rw c.in-Err-OtherForm.field-0-is at c.in-Err-OtherForm.ensures in
-    record { answer = (refl, λ (p : Program) lines. let some = reads c.args.unit c.args.bytes.now p lines in cc) }
+    record { answer = (c.at.ensures, λ (p : Program) lines. let some = reads c.args.unit c.args.bytes.now p lines in cc) }
