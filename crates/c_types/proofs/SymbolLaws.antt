@@ -1,6 +1,6 @@
 -- A table of names and what it stands for.
-use Rattle.std.proofs.Common.{◌≡◌, ◌∙◌, ◌++◌, ◌∷◌, [], ℕ, List, map, take, length, Option, None, Some, true, false, Bool, is_some, refl, sym, ap}
-use Rattle.std.specs.Prelude.{bytes_eq, position}
+use Rattle.std.proofs.Common.{◌≡◌, ◌∙◌, ◌++◌, ◌∷◌, [], ℕ, List, map, take, length, Option, None, Some, true, false, is_some, refl, sym, ap}
+use Rattle.std.specs.Prelude.{bytes_eq}
 use Rattle.std.specs.Map.{lookup, keys_of}
 use Rattle.std.proofs.lemmas.List.{map-append, take-map, length-map}
 use Rattle.std.proofs.lemmas.Map.Made.{lookup-map_values, keys_of-map_values}

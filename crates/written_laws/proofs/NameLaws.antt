@@ -1,13 +1,12 @@
 -- What names begin with.
-use Rattle.std.specs.Prelude.{◌⊎◌, ◌≡◌, ℕ, Bool, true, false, not, ◌&&◌, ◌==◌, List, [], ◌∷◌, ◌++◌, None}
-use Rattle.std.proofs.Common.{refl, sym, ap, subst, ◌∙◌, inl, inr}
+use Rattle.std.specs.Prelude.{◌≡◌, ℕ, Bool, true, false, not, ◌&&◌, ◌==◌, [], ◌∷◌}
+use Rattle.std.proofs.Common.{refl, sym, subst, inl, inr}
 use Rattle.std.proofs.lemmas.Bool.{eqb-true}
-use Rattle.std.specs.List.{list_all}
 use Rattle.c_lang.specs.Names.{Bytes, is_letter, is_word, is_reserved}
 use Rattle.c_lang.specs.declared.unit.Unit.{Unit}
-use Rattle.c_grammar.specs.Words.{is_allowed, is_refused}
+use Rattle.c_grammar.specs.Words.{is_allowed}
 use Rattle.c_grammar.specs.Scopes.{temporary}
-use Rattle.written_laws.specs.SourceNames.{IsWord, IsName, word, made, dollar, begins_with, IsReservedHere}
+use Rattle.written_laws.specs.SourceNames.{IsName, word, made, dollar, begins_with, IsReservedHere}
 
 first_true : (a b : Bool) → (a && b) ≡ true → a ≡ true
 first_true true b h = refl

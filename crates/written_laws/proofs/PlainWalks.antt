@@ -1,16 +1,14 @@
 -- What is said throughout the bodies of a program is said throughout those of its resolved form, where
 -- resolution changes nothing of what is said.
-use Rattle.std.specs.Prelude.{◌≡◌, Bool, false, List, [], ◌∷◌, map, All, Option, Some, None}
+use Rattle.std.specs.Prelude.{◌≡◌, false, List, [], ◌∷◌, map, All}
 use Rattle.std.proofs.Common.{refl, sym, ap, subst, ◌∙◌}
-use Rattle.std.specs.Option.{option_map}
 use Rattle.std.proofs.lemmas.List.Elements.{All-nil, All-cons, All-head, All-tail}
 use Rattle.c_lang.specs.Names.{Bytes}
-use Rattle.c_lang.specs.Trees.{Expression, literal, variable, element, function, null, negation, logical_not, binary, Statement, Statements, skip, set, set_element, call, call_by, if_else, while_loop, break_loop, return_with, assert_that, input, output, point, choice, force, pick, none, more}
+use Rattle.c_lang.specs.Trees.{Statement, Statements, skip, set, set_element, call, call_by, if_else, while_loop, break_loop, return_with, assert_that, input, output, point, choice, force, pick, none, more}
 use Rattle.c_lang.specs.declared.stmt.Kind.{Kind}
-use Rattle.c_lang.specs.declared.stmt.Dest.{Dest}
 use Rattle.c_lang.specs.declared.program.Func.{Func}
 use Rattle.c_lang.specs.declared.program.Program.{Program}
-use Rattle.c_types.specs.Plain.{PlainFunc, PlainProgram, plain_expression, plain_statement, plain_statements, plain_func, plain_program}
+use Rattle.c_types.specs.Plain.{PlainFunc, PlainProgram, plain_statement, plain_statements, plain_func, plain_program}
 use Rattle.written_laws.specs.Walk.{Context, told, told_all, in_loop, in_pick, behind, behind_all, start_of, Throughout, ThroughoutAll, body_of, InBodies}
 
 mutual

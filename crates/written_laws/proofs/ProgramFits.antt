@@ -1,6 +1,6 @@
 -- The declarations of a text that is written in a unit.
-use Rattle.std.specs.Prelude.{⊤, ◌≡◌, ◌≤◌, ◌-◌, ◌-ℤ◌, ℕ, zero, suc, ℤ, pos, nat_abs, false, List, [], ◌∷◌, ◌++◌, map, length, replicate, All, Option, Some, None}
-use Rattle.std.proofs.Common.{refl, sym, ap, subst, arith}
+use Rattle.std.specs.Prelude.{◌≡◌, ◌≤◌, ◌-◌, ◌-ℤ◌, ℕ, ℤ, pos, nat_abs, List, [], ◌∷◌, ◌++◌, map, length, replicate, All}
+use Rattle.std.proofs.Common.{sym, subst, arith}
 use Rattle.std.proofs.lemmas.Int.{ints}
 use Rattle.std.proofs.lemmas.List.Elements.{All-nil, All-cons, All-append, All-push, All-replicate}
 use Rattle.c_lang.specs.Names.{Bytes}
@@ -14,15 +14,14 @@ use Rattle.c_lang.specs.declared.program.Proto.{Proto}
 use Rattle.c_lang.specs.declared.program.Func.{Func}
 use Rattle.c_lang.specs.declared.program.Program.{Program}
 use Rattle.c_grammar.specs.declared.token.Token.{Token}
-use Rattle.c_grammar.specs.Tokens.{mark, semicolon, comma, round_close, brace_open, brace_close, square_close, equals}
+use Rattle.c_grammar.specs.Tokens.{mark, semicolon, comma, round_close, brace_open, brace_close}
 use Rattle.c_grammar.specs.Separated.{Separated, last, more, parts_of, separated_tokens, Each}
-use Rattle.c_grammar.specs.Scopes.{Scope, is_declared}
-use Rattle.c_grammar.specs.Statements.{pointer_tokens, ints_tokens, pieces_tokens, pieces_stmts, pieces_scope, arity}
-use Rattle.c_grammar.specs.Units.{Parts, ParamTree, ParamsTree, HeadTree, param_tokens, params_tokens, head_tokens, param_list, param_kind, param_name, IsNamed, AreNamed, SignedTree, signed_tokens, signed_value, NumberInit, ArrayInit, PointerInit, External, number_init_tokens, array_init_tokens, pointer_init_tokens, external_tokens, unit_tokens, IsExternal, AreExternals, no_parts, array_refusals, kept_values, start_value, values_of, target_of, named_param, all_refusals, all_declared, function_start, add, add_all}
+use Rattle.c_grammar.specs.Statements.{pointer_tokens, pieces_tokens, pieces_stmts, pieces_scope, arity}
+use Rattle.c_grammar.specs.Units.{Parts, ParamTree, ParamsTree, HeadTree, param_tokens, params_tokens, head_tokens, param_list, param_kind, param_name, IsNamed, AreNamed, SignedTree, signed_tokens, signed_value, NumberInit, ArrayInit, PointerInit, External, number_init_tokens, array_init_tokens, pointer_init_tokens, external_tokens, unit_tokens, IsExternal, AreExternals, no_parts, array_refusals, kept_values, start_value, values_of, target_of, named_param, all_refusals, function_start, add, add_all}
 use Rattle.c_grammar.specs.Units as tree
 use Rattle.c_grammar.specs.Grammar.{program_of}
 use Rattle.c_grammar.specs.Written.{IsWritten}
-use Rattle.written_laws.specs.Walk.{Context, start_of, ThroughoutAll, body_of, InBodies}
+use Rattle.written_laws.specs.Walk.{start_of, ThroughoutAll, body_of}
 use Rattle.written_laws.specs.Literals.{largest, IsLiteral, IsInitial, ShapeHasInts}
 use Rattle.written_laws.specs.SourceNames.{IsWord, ShapeHasNames}
 use Rattle.written_laws.proofs.GivenWords.{TokensFit, fit_append, given_fit}

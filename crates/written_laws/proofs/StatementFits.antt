@@ -1,7 +1,6 @@
 -- The statements of a text that is written in a unit: one walk over its tree.
-use Rattle.std.specs.Prelude.{⊤, ◌≡◌, ◌≤◌, Bool, true, false, cond, ◌+◌, List, [], ◌∷◌, ◌++◌, map, Some, None}
+use Rattle.std.specs.Prelude.{◌≡◌, Bool, true, false, cond, ◌+◌, List, [], ◌∷◌, ◌++◌, map, Some, None}
 use Rattle.std.proofs.Common.{refl, sym, subst}
-use Rattle.std.specs.List.{Contains}
 use Rattle.c_lang.specs.Names.{Bytes}
 use Rattle.c_lang.specs.Trees.{expression_of, Statement, statement_of, skip, set, set_element, call, if_else, while_loop, break_loop, return_with, assert_that, input, output, point, choice, force, pick, none, more}
 use Rattle.c_lang.specs.declared.unit.Unit.{Unit}

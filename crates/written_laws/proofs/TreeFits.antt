@@ -1,5 +1,5 @@
 -- Expressions, calls and right sides of a text have the names and the literals of its tokens.
-use Rattle.std.specs.Prelude.{⊤, ◌≡◌, ◌≤◌, ℕ, pos, nat_abs, List, [], ◌∷◌, map}
+use Rattle.std.specs.Prelude.{⊤, ◌≤◌, ℕ, pos, nat_abs, List, [], ◌∷◌, map}
 use Rattle.std.proofs.Common.{sym, ap, subst}
 use Rattle.c_lang.specs.Trees.{Expression, expression_of}
 use Rattle.c_lang.specs.declared.unit.Unit.{Unit}

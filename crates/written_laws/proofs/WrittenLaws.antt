@@ -1,9 +1,8 @@
 -- The laws, each from the one walk.
-use Rattle.std.specs.Prelude.{⊤, ◌≡◌, false, All, List, slice_index_or, Option, None}
-use Rattle.std.specs.List.{Contains}
+use Rattle.std.specs.Prelude.{All, slice_index_or}
 use Rattle.std.proofs.lemmas.List.Elements.{All-weaker}
 use Rattle.c_lang.specs.Names.{Bytes}
-use Rattle.c_lang.specs.Trees.{Statement, skip, set, set_element, call, call_by, if_else, while_loop, break_loop, return_with, assert_that, input, output, point, choice, force, pick}
+use Rattle.c_lang.specs.Trees.{Statement, call, call_by, input, choice}
 use Rattle.c_lang.specs.declared.stmt.Dest.{Dest}
 use Rattle.c_lang.specs.declared.stmt.Dest.TheVariants.{Nowhere, Into, Fresh}
 use Rattle.c_lang.specs.declared.unit.Unit.{Unit}
@@ -22,7 +21,7 @@ use Rattle.c_types.specs.Programs.{outside_of}
 use Rattle.c_types.specs.Types.{Types}
 use Rattle.written_laws.proofs.StatementFits.{IsFit}
 use Rattle.written_laws.proofs.TypedLocals.{IsNew, Apart, typed_apart, outside_is_global}
-use Rattle.written_laws.proofs.ProgramFits.{GlobalFits, FuncFits, ProgramFits, written_fits}
+use Rattle.written_laws.proofs.ProgramFits.{GlobalFits, FuncFits, written_fits}
 
 -- what the walk says of each statement, for one law
 in_bodies : (u : Unit) (Says : Context → Statement → Type 0) → ((at : Context) (s : Statement) → IsFit u at s → Says at s) → (p : Program) → All (FuncFits u) p.funcs → InBodies Says p

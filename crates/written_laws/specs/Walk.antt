@@ -1,7 +1,7 @@
 -- What is said of each statement of a function's body, those inside of others included.
-use Rattle.std.specs.Prelude.{⊤, Bool, true, false, List, [], ◌∷◌, map, All}
+use Rattle.std.specs.Prelude.{⊤, Bool, true, false, List, ◌∷◌, map, All}
 use Rattle.c_lang.specs.Names.{Bytes}
-use Rattle.c_lang.specs.Trees.{Statement, Statements, skip, set, set_element, call, call_by, if_else, while_loop, break_loop, return_with, assert_that, input, output, point, choice, force, pick, none, more, statement_of, statements}
+use Rattle.c_lang.specs.Trees.{Statement, Statements, set, call, call_by, if_else, while_loop, input, choice, pick, none, more, statement_of, statements}
 use Rattle.c_lang.specs.declared.stmt.Stmt.{Stmt}
 use Rattle.c_lang.specs.declared.stmt.Kind.{Kind}
 use Rattle.c_lang.specs.declared.stmt.Dest.{Dest}

@@ -1,4 +1,4 @@
-use Rattle.std.proofs.Common.{◌≡◌, refl, None}
+use Rattle.std.proofs.Common.{◌≡◌, None}
 use Rattle.c_lang.specs.declared.program.Program.{Program}
 use Rattle.c_lines.specs.Code.Reading.{program}
 use Rattle.c_lines.proofs.Programs.{reads, is_program}
