@@ -17,7 +17,7 @@ use Rattle.version_names.specs.Home.{Home, Linked, same_linked}
 use Rattle.version_names.specs.Home as home
 use Rattle.version_names.specs.Provenance.{Provenance, may_update}
 use Rattle.version_names.specs.Provenance as origin
-use Rattle.merge_core.specs.UpdatingRun.{World, State, UpdFrame, UpdConfig, cell_meaning, function_meaning, code_of, updating_access, swapped_state, swapped, picked, update, step_updating}
+use Rattle.merge_core.specs.UpdatingRun.{State, UpdFrame, UpdConfig, cell_meaning, function_meaning, code_of, updating_access, swapped_state, swapped, picked, update, step_updating}
 use Rattle.plain_run.proofs.Simulation.{Comes, Matches, Holds, same_from}
 use Rattle.c_lang.specs.declared.unit.Pos.{Pos}
 use Rattle.c_lang.specs.declared.event.Trap.{Trap}
@@ -33,30 +33,13 @@ use Rattle.c_lang.specs.declared.stmt.Dest.TheVariants.{Nowhere, Into, Fresh}
 use Rattle.c_lang.specs.declared.stmt.Stmt.{Stmt, out-Stmt}
 use Rattle.c_lang.specs.declared.stmt.Stmt.TheOpen.{Stmt-F}
 use Rattle.c_lang.specs.declared.stmt.Stmt.TheOpen as one
-use Rattle.c_lang.specs.declared.program.Program.{Program}
-use Rattle.merge_core.proofs.Relation.{Naming, Merging, is_there, R, transform_function}
+use Rattle.merge_core.proofs.Relation.{Merging, is_there, R, transform_function}
 use Rattle.merge_core.proofs.FrameLemmas.{HasTransform}
 use Rattle.merge_core.proofs.CallLemmas.{HasFuncs, MayCall, IsReady}
 use Rattle.merge_core.proofs.StatementLemmas.{IsReadyFor, matched}
 
 module _ (M : Merging) where
-  abbrev W : World
-  W = M.world
-
-  abbrev ρ : Provenance → Bytes → Bytes
-  ρ = M.variable_name
-
-  abbrev κ : Provenance → Bytes → Bytes
-  κ = M.function_name
-
-  abbrev κ' : Linked → Bytes
-  κ' = M.value_name
-
-  abbrev names : Naming W ρ κ κ'
-  names = M.naming
-
-  abbrev P : Program
-  P = M.program
+  open M use {world as W, program as P}
 
   abbrev pub May : Version → Value Linked → Type 0
   May = MayCall M

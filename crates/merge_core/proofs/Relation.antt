@@ -63,23 +63,7 @@ pub record Merging : Type 0 where
   pub program : Program
 
 module _ (M : Merging) where
-  abbrev W : World
-  W = M.world
-
-  abbrev ρ : Provenance → Bytes → Bytes
-  ρ = M.variable_name
-
-  abbrev κ : Provenance → Bytes → Bytes
-  κ = M.function_name
-
-  abbrev κ' : Linked → Bytes
-  κ' = M.value_name
-
-  abbrev names : Naming W ρ κ κ'
-  names = M.naming
-
-  abbrev P : Program
-  P = M.program
+  open M use {world as W, variable_name as ρ, function_name as κ, value_name as κ', program as P}
 
   abbrev value' : Value Linked → Value Bytes
   value' = renamed_value κ'

@@ -15,7 +15,7 @@ use Rattle.version_names.specs.Version as version
 use Rattle.version_names.specs.Home.{Home, Linked, same_home, same_linked}
 use Rattle.version_names.specs.Home as home
 use Rattle.version_names.specs.Provenance.{Provenance}
-use Rattle.merge_core.specs.UpdatingRun.{World, State, UpdFrame, UpdConfig, put_linked, cell_meaning, updating_access, swapped_state}
+use Rattle.merge_core.specs.UpdatingRun.{State, UpdFrame, UpdConfig, put_linked, cell_meaning, updating_access, swapped_state}
 use Rattle.plain_run.proofs.Simulation.{goes_once}
 use Rattle.c_lang.specs.declared.unit.Pos.{Pos}
 use Rattle.c_lang.specs.declared.event.Trap.{Trap}
@@ -24,31 +24,14 @@ use Rattle.c_lang.specs.declared.event.Event.TheVariants as event
 use Rattle.c_lang.specs.declared.expr.Expr.{Expr}
 use Rattle.c_lang.specs.declared.stmt.Dest.{Dest}
 use Rattle.c_lang.specs.declared.stmt.Dest.TheVariants.{Nowhere, Into, Fresh}
-use Rattle.c_lang.specs.declared.program.Program.{Program}
 use Rattle.c_lang.proofs.TreeLemmas.{expression_of-expr_of}
 use Rattle.merge_core.proofs.Renaming.{under, renamed, renamed_dest}
 use Rattle.merge_core.proofs.MergedStatements.{now_name}
 use Rattle.merge_core.proofs.EvaluationRenamed.{renamed_value, renamed_answer, Carries, ev-renamed}
-use Rattle.merge_core.proofs.Relation.{Naming, Merging, is_there, settled_by, settled, SameState, SameFrame, Below, R, Follows}
+use Rattle.merge_core.proofs.Relation.{Merging, is_there, settled_by, settled, SameState, SameFrame, Below, R, Follows}
 
 module _ (M : Merging) where
-  abbrev W : World
-  W = M.world
-
-  abbrev ρ : Provenance → Bytes → Bytes
-  ρ = M.variable_name
-
-  abbrev κ : Provenance → Bytes → Bytes
-  κ = M.function_name
-
-  abbrev κ' : Linked → Bytes
-  κ' = M.value_name
-
-  abbrev names : Naming W ρ κ κ'
-  names = M.naming
-
-  abbrev P : Program
-  P = M.program
+  open M use {world as W, variable_name as ρ, function_name as κ, value_name as κ', naming as names, program as P}
 
   abbrev value' : Value Linked → Value Bytes
   value' = renamed_value κ'

@@ -16,7 +16,7 @@ use Rattle.version_names.specs.Home.{Home, Linked}
 use Rattle.version_names.specs.Home as home
 use Rattle.version_names.specs.Provenance.{Provenance, may_update}
 use Rattle.version_names.specs.Provenance as origin
-use Rattle.merge_core.specs.UpdatingRun.{World, State, UpdFrame, UpdConfig, cell_meaning, function_meaning, version_code, code_of, updating_access, swapped_state, swapped, picked, update, step_updating}
+use Rattle.merge_core.specs.UpdatingRun.{State, UpdFrame, UpdConfig, cell_meaning, function_meaning, version_code, code_of, updating_access, swapped_state, swapped, picked, update, step_updating}
 use Rattle.plain_run.proofs.Simulation.{Leads, Comes, matches_after, goes_once, silently, comes_on, takes_once, comes_takes, takes_comes, waits_there, comes_waits, ends_there}
 use Rattle.c_lang.specs.declared.unit.Pos.{Pos}
 use Rattle.c_lang.specs.declared.event.Trap.TheVariants.{Assert, NullCall}
@@ -33,33 +33,16 @@ use Rattle.c_lang.specs.declared.stmt.Stmt.TheOpen.{Stmt-F}
 use Rattle.c_lang.specs.declared.stmt.Stmt.TheOpen as one
 use Rattle.c_lang.specs.declared.stmt.Stmt.TheVariants as stmt
 use Rattle.c_lang.specs.declared.program.Func.{Func}
-use Rattle.c_lang.specs.declared.program.Program.{Program}
 use Rattle.merge_core.proofs.Renaming.{under, renamed_dest}
 use Rattle.merge_core.proofs.MergedStatements.{now_name, choice_name, result_name, transform_name, is_nil, is_set, swap_body, point_body, hand_on, hand, merged_layer, merged_stmt, merged_item}
 use Rattle.merge_core.proofs.EvaluationRenamed.{renamed_value, renamed_answer, number-renamed, ev-Lit, ev-test}
-use Rattle.merge_core.proofs.Relation.{Naming, Merging, is_there, flag, transform_function, settled_by, SameState, SameFrame, Hands, Below, R, Follows}
+use Rattle.merge_core.proofs.Relation.{Merging, is_there, flag, transform_function, settled_by, SameState, SameFrame, Hands, Below, R, Follows}
 use Rattle.merge_core.proofs.StateLemmas.{settled_there, carries, value_of-renamed, by_answer, same_stored, same_put_elements, by_elements, renamed_answers, and-renamed, by_values}
 use Rattle.merge_core.proofs.FrameLemmas.{out_merged, there_later, below_later, does_map, after_mark-map, by_test, same_if, IsMerged, same_entry, given-renamed, handed_follows, HasTransform}
 use Rattle.merge_core.proofs.CallLemmas.{Params, IsWrapper, IsDirect, IsCallable, pad, bound-pad, AllAre, all_bound, no_flag-bound, read_args, HasFuncs, MayCall, IsReady}
 
 module _ (M : Merging) where
-  abbrev W : World
-  W = M.world
-
-  abbrev ρ : Provenance → Bytes → Bytes
-  ρ = M.variable_name
-
-  abbrev κ : Provenance → Bytes → Bytes
-  κ = M.function_name
-
-  abbrev κ' : Linked → Bytes
-  κ' = M.value_name
-
-  abbrev names : Naming W ρ κ κ'
-  names = M.naming
-
-  abbrev P : Program
-  P = M.program
+  open M use {world as W, variable_name as ρ, function_name as κ, value_name as κ', naming as names, program as P}
 
   abbrev value' : Value Linked → Value Bytes
   value' = renamed_value κ'
