@@ -5,11 +5,8 @@ use Rattle.c_lang.specs.Names.{Bytes}
 use Rattle.c_lang.specs.Trees.{Statements, none, more}
 use Rattle.c_lang.specs.declared.stmt.Dest.{Dest}
 use Rattle.c_lang.specs.declared.stmt.Dest.TheVariants.{Nowhere, Into, Fresh}
-use Rattle.c_types.specs.declared.means.Means.{Means}
-use Rattle.c_types.specs.declared.means.Means.TheVariants.{Cell}
-use Rattle.c_types.specs.Names.{Entries, found, added}
-use Rattle.c_types.specs.Scopes.{with_dest}
-use Rattle.c_types.specs.declared.scope.Scope.{Scope}
+use Rattle.c_types.specs.Names.{Means, Cell, Entries, found, added}
+use Rattle.c_types.specs.Scopes.{with_dest, Scope}
 use Rattle.c_types.specs.Statements.{dest_of, with_locals, scope_after_all, entered, after_block}
 
 -- a list and what stands behind it

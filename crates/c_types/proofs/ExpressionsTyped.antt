@@ -3,23 +3,21 @@ use Rattle.std.proofs.Common.{◌≡◌, zero, suc, ℤ, pos, negsuc, Some, None
 use Rattle.c_lang.specs.Trees.{Expression, literal, variable, element, function, null, negation, logical_not, binary}
 use Rattle.c_lang.specs.declared.stmt.Kind.{Kind}
 use Rattle.c_lang.specs.declared.stmt.Kind.TheVariants.{Int, Fp}
-use Rattle.c_types.specs.declared.means.Means.{Means}
-use Rattle.c_types.specs.declared.means.Means.TheVariants.{Cell, Row, Code, Refused}
-use Rattle.c_types.specs.Names.{Names, smaller, fits}
-use Rattle.c_types.specs.Expressions.{wrong_name, wrong_function, wrong_row, wrong_literal, wrong_null, place_of, wrong}
-use Rattle.c_types.specs.Typing.{IsValue, IsFunction, IsRow, IsLiteral, IsPointer, IsTyped}
+use Rattle.c_types.specs.Names.{Means, Cell, Array, Code, Refused, Names, smaller, fits}
+use Rattle.c_types.specs.Expressions.{wrong_name, wrong_function, wrong_array, wrong_literal, wrong_null, place_of, wrong}
+use Rattle.c_types.specs.Typing.{IsValue, IsFunction, IsArray, IsLiteral, IsPointer, IsTyped}
 use Rattle.c_types.proofs.Combined.{some_none, both_none, fit_sound, fit_itself}
 
 value_sound : (p : Kind) (m : Means) → wrong_name p m ≡ None → IsValue p m
 value_sound p (Cell k) h = fit_sound p k h
-value_sound p Row h = absurd (some_none 10 h)
+value_sound p Array h = absurd (some_none 10 h)
 value_sound p (Code params gives (Some n) denied) h = fit_sound p (Fp n) h
 value_sound p (Code params gives None denied) h = absurd (some_none 15 h)
 value_sound p (Refused n) h = absurd (some_none n h)
 
 value_complete : (p : Kind) (m : Means) → IsValue p m → wrong_name p m ≡ None
 value_complete p (Cell k) h = fit_itself p k h
-value_complete p Row h = absurd h
+value_complete p Array h = absurd h
 value_complete p (Code params gives (Some n) denied) h = fit_itself p (Fp n) h
 value_complete p (Code params gives None denied) h = absurd h
 value_complete p (Refused n) h = absurd h
@@ -28,27 +26,27 @@ pub function_sound : (p : Kind) (m : Means) → wrong_function p m ≡ None → 
 function_sound p (Code params gives (Some n) denied) h = fit_sound p (Fp n) h
 function_sound p (Code params gives None denied) h = absurd (some_none 15 h)
 function_sound p (Cell k) h = absurd (some_none 10 h)
-function_sound p Row h = absurd (some_none 10 h)
+function_sound p Array h = absurd (some_none 10 h)
 function_sound p (Refused n) h = absurd (some_none n h)
 
 pub function_complete : (p : Kind) (m : Means) → IsFunction p m → wrong_function p m ≡ None
 function_complete p (Code params gives (Some n) denied) h = fit_itself p (Fp n) h
 function_complete p (Code params gives None denied) h = absurd h
 function_complete p (Cell k) h = absurd h
-function_complete p Row h = absurd h
+function_complete p Array h = absurd h
 function_complete p (Refused n) h = absurd h
 
-pub row_sound : (m : Means) → wrong_row m ≡ None → IsRow m
-row_sound Row h = tt
-row_sound (Cell k) h = absurd (some_none 10 h)
-row_sound (Code params gives value denied) h = absurd (some_none 10 h)
-row_sound (Refused n) h = absurd (some_none n h)
+pub array_sound : (m : Means) → wrong_array m ≡ None → IsArray m
+array_sound Array h = tt
+array_sound (Cell k) h = absurd (some_none 10 h)
+array_sound (Code params gives value denied) h = absurd (some_none 10 h)
+array_sound (Refused n) h = absurd (some_none n h)
 
-pub row_complete : (m : Means) → IsRow m → wrong_row m ≡ None
-row_complete Row h = refl
-row_complete (Cell k) h = absurd h
-row_complete (Code params gives value denied) h = absurd h
-row_complete (Refused n) h = absurd h
+pub array_complete : (m : Means) → IsArray m → wrong_array m ≡ None
+array_complete Array h = refl
+array_complete (Cell k) h = absurd h
+array_complete (Code params gives value denied) h = absurd h
+array_complete (Refused n) h = absurd h
 
 literal_sound : (p : Kind) (z : ℤ) → wrong_literal p z ≡ None → IsLiteral p z
 literal_sound Int z h = tt
@@ -72,9 +70,9 @@ pub typed : (names : Names) (p : Kind) (e : Expression) → wrong names p e ≡ 
 typed names p (literal z) h = literal_sound p z h
 typed names p (variable x) h = value_sound p (names x) h
 typed names p (element a i) h =
-    let q = both_none (fits p Int) (smaller (wrong_row (names a)) (wrong names Int i)) h in
-    let r = both_none (wrong_row (names a)) (wrong names Int i) q.1 in
-    (fit_sound p Int q.0, row_sound (names a) r.0, typed names Int i r.1)
+    let q = both_none (fits p Int) (smaller (wrong_array (names a)) (wrong names Int i)) h in
+    let r = both_none (wrong_array (names a)) (wrong names Int i) q.1 in
+    (fit_sound p Int q.0, array_sound (names a) r.0, typed names Int i r.1)
 typed names p (function f) h = function_sound p (names f) h
 typed names p null h = null_sound p h
 typed names p (negation a) h =
@@ -92,7 +90,7 @@ typed names p (binary o a b) h =
 pub not_wrong : (names : Names) (p : Kind) (e : Expression) → IsTyped names p e → wrong names p e ≡ None
 not_wrong names p (literal z) h = literal_complete p z h
 not_wrong names p (variable x) h = value_complete p (names x) h
-not_wrong names p (element a i) h = rw (fit_itself p Int h.0, row_complete (names a) h.1, not_wrong names Int i h.2) refl
+not_wrong names p (element a i) h = rw (fit_itself p Int h.0, array_complete (names a) h.1, not_wrong names Int i h.2) refl
 not_wrong names p (function f) h = function_complete p (names f) h
 not_wrong names p null h = null_complete p h
 not_wrong names p (negation a) h = rw (fit_itself p Int h.0, not_wrong names Int a h.1) refl

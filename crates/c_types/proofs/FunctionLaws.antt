@@ -2,7 +2,7 @@
 use Rattle.std.proofs.Common.{◌≡◌, List, [], ◌∷◌, refl}
 use Rattle.c_lang.specs.Names.{Bytes}
 use Rattle.c_lang.specs.declared.stmt.Kind.{Kind}
-use Rattle.c_types.specs.declared.scope.Scope.{Scope}
+use Rattle.c_types.specs.Scopes.{Scope}
 use Rattle.c_types.specs.Functions.{with_param, with_params}
 
 pub params_outside : (s : Scope) (ps : List (Kind × Bytes)) → (with_params s ps).outside ≡ s.outside

@@ -12,14 +12,10 @@ use Rattle.c_lang.specs.declared.stmt.Kind.TheVariants.{Int, Fp}
 use Rattle.c_lang.specs.declared.program.Func.{Func}
 use Rattle.c_lang.specs.declared.program.Program.{Program}
 use Rattle.c_lang.proofs.TreeLemmas.{expression_of-Lit, expression_of-Var, expression_of-Elem, expression_of-FunRef, expression_of-Null, expression_of-Neg, expression_of-Not, expression_of-Bin, statement_of-Skip, statement_of-Set, statement_of-SetElem, statement_of-Call, statement_of-CallBy, statement_of-If, statement_of-While, statement_of-Break, statement_of-Return, statement_of-Assert, statement_of-Input, statement_of-Output, statement_of-Point, statement_of-Choice}
-use Rattle.c_types.specs.declared.means.Means.{Means}
-use Rattle.c_types.specs.declared.means.Means.TheVariants.{Cell, Row, Code, Refused}
-use Rattle.c_types.specs.declared.scope.Scope.{Scope}
-use Rattle.c_types.specs.declared.scope.Block.{Block}
+use Rattle.c_types.specs.Names.{Means, Cell, Array, Code, Refused, Names, Entries}
+use Rattle.c_types.specs.Scopes.{Scope, Block, names_of}
 use Rattle.c_types.specs.Bodies.{body_of}
-use Rattle.c_types.specs.Names.{Names, Entries}
 use Rattle.c_types.specs.Expressions.{own_kind, place_of, resolved_name, resolved_literal, resolved}
-use Rattle.c_types.specs.Scopes.{names_of}
 use Rattle.c_types.specs.Calls.{place_in, element_kind, ints, resolved_args, resolved_call}
 use Rattle.c_types.specs.Statements.{scope_after, block_in, entered, after_block, resolved_statement, resolved_list}
 use Rattle.c_types.specs.Functions.{body_scope, resolved_func}
@@ -27,14 +23,14 @@ use Rattle.c_types.specs.Programs.{with_func, with_globals, outside_of, resolved
 use Rattle.c_types.specs.Typing.{IsValue, IsFunction, IsLiteral, IsTyped, AreArguments, IsCall, IsCallBy, IsReturn, IsTypedStatement, AreTyped}
 use Rattle.c_types.specs.Types.{IsTypedFunc, AreTypedFuncs, Types}
 use Rattle.c_types.specs.Plain.{plain_expression, plain_statement, plain_statements, plain_func, plain_program}
-use Rattle.c_types.proofs.StatementsTyped.{row_kind}
+use Rattle.c_types.proofs.StatementsTyped.{array_kind}
 
 -- ---- expressions
 
 plain_name : (x : Bytes) (m : Means) → plain_expression (expression_of (resolved_name x m)) ≡ variable x
 plain_name x (Code params gives value denied) = ap plain_expression (expression_of-FunRef x)
 plain_name x (Cell k) = ap plain_expression (expression_of-Var x)
-plain_name x Row = ap plain_expression (expression_of-Var x)
+plain_name x Array = ap plain_expression (expression_of-Var x)
 plain_name x (Refused n) = ap plain_expression (expression_of-Var x)
 
 plain_literal : (p : Kind) (z : ℤ) → IsLiteral p z → plain_expression (expression_of (resolved_literal p z)) ≡ literal z
@@ -62,7 +58,7 @@ plain_resolved names p (binary o a b) h =
 
 value_int : (m : Means) (x : Bytes) (names : Names) → names x ≡ m → IsValue Int m → own_kind names (variable x) ≡ Int
 value_int (Cell k) x names is h = rw is (sym h)
-value_int Row x names is h = absurd h
+value_int Array x names is h = absurd h
 value_int (Code params gives (Some n) denied) x names is h = absurd cc
 value_int (Code params gives None denied) x names is h = absurd h
 value_int (Refused n) x names is h = absurd h
@@ -71,7 +67,7 @@ function_int : (m : Means) (f : Bytes) (names : Names) → names f ≡ m → IsF
 function_int (Code params gives (Some n) denied) f names is h = absurd cc
 function_int (Code params gives None denied) f names is h = absurd h
 function_int (Cell k) f names is h = absurd h
-function_int Row f names is h = absurd h
+function_int Array f names is h = absurd h
 function_int (Refused n) f names is h = absurd h
 
 -- an int has the kind int
@@ -114,7 +110,7 @@ plain_call s (Code params gives value denied) p d f es h =
 plain_call s (Cell Int) p d f es h = absurd h
 plain_call s (Cell (Fp n)) p d f es h =
     ap plain_statement (statement_of-CallBy p d f (resolved_args (names_of s) [] es)) ∙ ap (call p d f) (plain_ints (names_of s) n es h.2)
-plain_call s Row p d f es h = absurd h
+plain_call s Array p d f es h = absurd h
 plain_call s (Refused n) p d f es h = absurd h
 
 plain_call_by : (s : Scope) (m : Means) (p : Pos) (d : Dest) (x : Bytes) (es : List Expression) → IsCallBy s m d es
@@ -123,7 +119,7 @@ plain_call_by s (Cell Int) p d x es h = absurd h
 plain_call_by s (Cell (Fp n)) p d x es h =
     ap plain_statement (statement_of-CallBy p d x (resolved_args (names_of s) [] es)) ∙ ap (call p d x) (plain_ints (names_of s) n es h.2)
 plain_call_by s (Code params gives value denied) p d x es h = absurd h
-plain_call_by s Row p d x es h = absurd h
+plain_call_by s Array p d x es h = absurd h
 plain_call_by s (Refused n) p d x es h = absurd h
 
 plain_return : (names : Names) (gives : Bool) (p : Pos) (e : Option Expression) → IsReturn names gives e
@@ -142,7 +138,7 @@ mutual
   plain_statement_resolved b s (set_element p a i e) h =
       let k = element_kind (names_of s) (names_of s a) e in
       let one : plain_expression (expression_of (resolved (names_of s) k e)) ≡ plain_expression e =
-      rw (row_kind (names_of s) (names_of s a) e h.0) (plain_resolved (names_of s) Int e h.2) in
+      rw (array_kind (names_of s) (names_of s a) e h.0) (plain_resolved (names_of s) Int e h.2) in
       ap plain_statement (statement_of-SetElem p a (resolved (names_of s) Int i) (resolved (names_of s) k e))
       ∙ ap₂ (set_element p a) (plain_resolved (names_of s) Int i h.1) one
   plain_statement_resolved b s (call p d f es) h = plain_call s (names_of s f) p d f es h.1

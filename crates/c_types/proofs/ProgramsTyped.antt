@@ -15,12 +15,9 @@ use Rattle.c_lang.specs.declared.program.GlobalVar.{GlobalVar}
 use Rattle.c_lang.specs.declared.program.Proto.{Proto}
 use Rattle.c_lang.specs.declared.program.Func.{Func}
 use Rattle.c_lang.specs.declared.program.Program.{Program}
-use Rattle.c_types.specs.declared.means.Means.{Means}
-use Rattle.c_types.specs.declared.means.Means.TheVariants.{Cell, Row, Code, Refused}
-use Rattle.c_types.specs.declared.scope.Scope.{Scope}
+use Rattle.c_types.specs.Names.{Means, Cell, Array, Code, Refused, Entries, found, meant, smaller}
+use Rattle.c_types.specs.Scopes.{Scope, wrong_fresh}
 use Rattle.c_lang.specs.Kinds.{same_kind, same_kinds, same_result}
-use Rattle.c_types.specs.Names.{Entries, found, meant, smaller}
-use Rattle.c_types.specs.Scopes.{wrong_fresh}
 use Rattle.c_types.specs.Checks.{at_place, first}
 use Rattle.c_types.specs.Endings.{can_end}
 use Rattle.c_types.specs.Statements.{block_in, entered, refusal_in}
@@ -160,14 +157,14 @@ match_sound (Some (Code params gives value denied)) p h =
     let q = both_true (same_kinds params p.params) (same_result gives p.gives) (test_true (same_kinds params p.params && same_result gives p.gives) 10 h) in
     (kinds_sound params p.params q.0, same_result_sound gives p.gives q.1)
 match_sound (Some (Cell k)) p h = some_none 9 h
-match_sound (Some Row) p h = some_none 9 h
+match_sound (Some Array) p h = some_none 9 h
 match_sound (Some (Refused n)) p h = some_none 9 h
 match_sound None p h = some_none 9 h
 
 match_complete : (o : Option Means) (p : Proto) → IsMatch o p → wrong_match o p ≡ None
 match_complete (Some (Code params gives value denied)) p h = rw (h.0, h.1, kinds_itself p.params, same_result_itself p.gives) refl
 match_complete (Some (Cell k)) p h = absurd h
-match_complete (Some Row) p h = absurd h
+match_complete (Some Array) p h = absurd h
 match_complete (Some (Refused n)) p h = absurd h
 match_complete None p h = absurd h
 

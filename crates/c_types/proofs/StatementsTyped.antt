@@ -9,19 +9,15 @@ use Rattle.c_lang.specs.declared.stmt.Dest.{Dest}
 use Rattle.c_lang.specs.declared.stmt.Dest.TheVariants.{Nowhere, Into, Fresh}
 use Rattle.c_lang.specs.declared.stmt.Kind.{Kind}
 use Rattle.c_lang.specs.declared.stmt.Kind.TheVariants.{Int, Fp}
-use Rattle.c_types.specs.declared.means.Means.{Means}
-use Rattle.c_types.specs.declared.means.Means.TheVariants.{Cell, Row, Code, Refused}
-use Rattle.c_types.specs.declared.scope.Scope.{Scope}
-use Rattle.c_types.specs.declared.scope.Block.{Block}
-use Rattle.c_types.specs.Names.{Names, found, stands_from, stands_before, smaller, fits}
-use Rattle.c_types.specs.Expressions.{wrong, wrong_row, own_kind}
-use Rattle.c_types.specs.Scopes.{in_scope, names_of, is_another, kind_of_dest, wrong_kind, wrong_fresh, wrong_target, wrong_dest, wrong_effect, names_version}
+use Rattle.c_types.specs.Names.{Means, Cell, Array, Code, Refused, Names, found, stands_from, stands_before, smaller}
+use Rattle.c_types.specs.Scopes.{Scope, Block, in_scope, names_of, is_another, kind_of_dest, wrong_kind, wrong_fresh, wrong_target, wrong_dest, wrong_effect, names_version}
+use Rattle.c_types.specs.Expressions.{wrong, wrong_array, own_kind}
 use Rattle.c_types.specs.Checks.{at_place, first}
 use Rattle.c_types.specs.Calls.{place_in, element_kind, ints, wrong_element, wrong_count, wrong_places, wrong_each, wrong_args, wrong_result, wrong_use, wrong_pointer, wrong_call, wrong_call_by, wrong_return}
 use Rattle.c_types.specs.Statements.{scope_after, block_in, entered, after_block, wrong_answer, refusal, refusals}
-use Rattle.c_types.specs.Typing.{IsRow, IsTyped, IsNarrow, IsFresh, IsCell, IsDest, TakesInt, IsUse, AreArguments, IsPointerCall, IsCall, IsCallBy, IsReturn, IsAnswer, IsTypedStatement, AreTyped}
+use Rattle.c_types.specs.Typing.{IsArray, IsTyped, IsNarrow, IsFresh, IsCell, IsDest, TakesInt, IsUse, AreArguments, IsPointerCall, IsCall, IsCallBy, IsReturn, IsAnswer, IsTypedStatement, AreTyped}
 use Rattle.c_types.proofs.Combined.{some_none, both_none, smaller_none, first_none, none_first, at_none, none_at, test_false, test_true, not_some, fit_sound, fit_itself}
-use Rattle.c_types.proofs.ExpressionsTyped.{row_sound, row_complete, typed, not_wrong}
+use Rattle.c_types.proofs.ExpressionsTyped.{array_sound, array_complete, typed, not_wrong}
 
 -- ---- destinations
 
@@ -53,13 +49,13 @@ fresh_complete b s k x h = rw (h.new, h.alike, h.free, h.kept, h.own) refl
 
 target_sound : (m : Means) → wrong_target m ≡ None → IsCell m
 target_sound (Cell k) h = tt
-target_sound Row h = absurd (some_none 10 h)
+target_sound Array h = absurd (some_none 10 h)
 target_sound (Code params gives value denied) h = absurd (some_none 10 h)
 target_sound (Refused n) h = absurd (some_none n h)
 
 target_complete : (m : Means) → IsCell m → wrong_target m ≡ None
 target_complete (Cell k) h = refl
-target_complete Row h = absurd h
+target_complete Array h = absurd h
 target_complete (Code params gives value denied) h = absurd h
 target_complete (Refused n) h = absurd h
 
@@ -155,26 +151,26 @@ call_sound s (Code params gives value denied) d es h =
     let r = both_none (wrong_use s gives d) (wrong_args (names_of s) params es) q.1 in
     (q.0, use_sound s gives d r.0, args_sound (names_of s) params es r.1)
 call_sound s (Cell k) d es h = pointer_sound s k d es h
-call_sound s Row d es h = denied_sound 10 (wrong_each (names_of s) es) h
+call_sound s Array d es h = denied_sound 10 (wrong_each (names_of s) es) h
 call_sound s (Refused n) d es h = denied_sound n (wrong_each (names_of s) es) h
 
 call_complete : (s : Scope) (m : Means) (d : Dest) (es : List Expression) → IsCall s m d es → wrong_call s m d es ≡ None
 call_complete s (Code params gives value denied) d es h =
     rw (h.0, use_complete s gives d h.1, args_complete (names_of s) params es h.2) refl
 call_complete s (Cell k) d es h = pointer_complete s k d es h
-call_complete s Row d es h = absurd h
+call_complete s Array d es h = absurd h
 call_complete s (Refused n) d es h = absurd h
 
 call_by_sound : (s : Scope) (m : Means) (d : Dest) (es : List Expression) → wrong_call_by s m d es ≡ None → IsCallBy s m d es
 call_by_sound s (Cell k) d es h = pointer_sound s k d es h
 call_by_sound s (Code params gives value denied) d es h = denied_sound 10 (wrong_each (names_of s) es) h
-call_by_sound s Row d es h = denied_sound 10 (wrong_each (names_of s) es) h
+call_by_sound s Array d es h = denied_sound 10 (wrong_each (names_of s) es) h
 call_by_sound s (Refused n) d es h = denied_sound n (wrong_each (names_of s) es) h
 
 call_by_complete : (s : Scope) (m : Means) (d : Dest) (es : List Expression) → IsCallBy s m d es → wrong_call_by s m d es ≡ None
 call_by_complete s (Cell k) d es h = pointer_complete s k d es h
 call_by_complete s (Code params gives value denied) d es h = absurd h
-call_by_complete s Row d es h = absurd h
+call_by_complete s Array d es h = absurd h
 call_by_complete s (Refused n) d es h = absurd h
 
 return_sound : (names : Names) (gives : Bool) (e : Option Expression) → wrong_return names gives e ≡ None → IsReturn names gives e
@@ -191,25 +187,25 @@ return_complete names false (Some e) h = absurd h
 
 -- ---- elements and answers
 
-pub row_kind : (names : Names) (m : Means) (e : Expression) → IsRow m → element_kind names m e ≡ Int
-row_kind names Row e h = refl
-row_kind names (Cell k) e h = absurd h
-row_kind names (Code params gives value denied) e h = absurd h
-row_kind names (Refused n) e h = absurd h
+pub array_kind : (names : Names) (m : Means) (e : Expression) → IsArray m → element_kind names m e ≡ Int
+array_kind names Array e h = refl
+array_kind names (Cell k) e h = absurd h
+array_kind names (Code params gives value denied) e h = absurd h
+array_kind names (Refused n) e h = absurd h
 
 element_sound : (names : Names) (a : Bytes) (i e : Expression) → wrong_element names a i e ≡ None
-    → IsRow (names a) × IsTyped names Int i × IsTyped names Int e
+    → IsArray (names a) × IsTyped names Int i × IsTyped names Int e
 element_sound names a i e h =
     let k = element_kind names (names a) e in
-    let q = both_none (wrong_row (names a)) (smaller (wrong names Int i) (wrong names k e)) h in
+    let q = both_none (wrong_array (names a)) (smaller (wrong names Int i) (wrong names k e)) h in
     let r = both_none (wrong names Int i) (wrong names k e) q.1 in
-    let row = row_sound (names a) q.0 in
-    (row, typed names Int i r.0, subst (λ j. IsTyped names j e) (row_kind names (names a) e row) (typed names k e r.1))
+    let row = array_sound (names a) q.0 in
+    (row, typed names Int i r.0, subst (λ j. IsTyped names j e) (array_kind names (names a) e row) (typed names k e r.1))
 
-element_complete : (names : Names) (a : Bytes) (i e : Expression) → IsRow (names a) × IsTyped names Int i × IsTyped names Int e
+element_complete : (names : Names) (a : Bytes) (i e : Expression) → IsArray (names a) × IsTyped names Int i × IsTyped names Int e
     → wrong_element names a i e ≡ None
 element_complete names a i e h =
-    rw (row_kind names (names a) e h.0, row_complete (names a) h.0, not_wrong names Int i h.1, not_wrong names Int e h.2) refl
+    rw (array_kind names (names a) e h.0, array_complete (names a) h.0, not_wrong names Int i h.1, not_wrong names Int e h.2) refl
 
 answer_sound : (b : Block) (s : Scope) (d : Dest) → wrong_answer b s d ≡ None → IsAnswer b s d
 answer_sound b s d h =

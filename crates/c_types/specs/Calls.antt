@@ -1,6 +1,7 @@
 -- The typing of calls, elements and `return`.
 use Rattle.std.specs.Prelude.{ℕ, nat_eq, length, zero, suc, Bool, true, false, if◌then◌else◌, List, [], ◌∷◌, Option, Some, None}
 use Rattle.std.specs.Option.{option_or}
+use Rattle.c_lang.specs.Refusals as refused
 use Rattle.c_lang.specs.Names.{Bytes}
 use Rattle.c_lang.specs.Trees.{Expression}
 use Rattle.c_lang.specs.declared.expr.Expr.{Expr}
@@ -11,12 +12,9 @@ use Rattle.c_lang.specs.declared.stmt.Kind.{Kind}
 use Rattle.c_lang.specs.declared.stmt.Kind.TheVariants.{Int, Fp}
 use Rattle.c_lang.specs.declared.stmt.Stmt.{Stmt}
 use Rattle.c_lang.specs.declared.stmt.Stmt.TheVariants as stmt
-use Rattle.c_types.specs.declared.means.Means.{Means}
-use Rattle.c_types.specs.declared.means.Means.TheVariants.{Cell, Row, Code, Refused}
-use Rattle.c_types.specs.declared.scope.Scope.{Scope}
-use Rattle.c_types.specs.Names.{Names, smaller, fits}
-use Rattle.c_types.specs.Expressions.{kind_of, or_int, own_kind, wrong_row, wrong, resolved}
-use Rattle.c_types.specs.Scopes.{names_of, kind_of_dest, wrong_effect}
+use Rattle.c_types.specs.Names.{Means, Cell, Array, Code, Refused, Names, smaller, fits}
+use Rattle.c_types.specs.Scopes.{Scope, names_of, kind_of_dest, wrong_effect}
+use Rattle.c_types.specs.Expressions.{kind_of, or_int, own_kind, wrong_array, wrong, resolved}
 
 -- ---- values with a place
 
@@ -25,14 +23,14 @@ place_in scope d e = or_int (option_or (kind_of_dest scope d) (kind_of (names_of
 
 -- an element's place takes an int
 abbrev pub element_kind : Names → Means → Expression → Kind
-element_kind names Row e = Int
+element_kind names Array e = Int
 element_kind names (Cell k) e = own_kind names e
 element_kind names (Code params gives value denied) e = own_kind names e
 element_kind names (Refused n) e = own_kind names e
 
 abbrev pub wrong_element : Names → Bytes → Expression → Expression → Option ℕ
 wrong_element names a i e =
-    smaller (wrong_row (names a)) (smaller (wrong names Int i) (wrong names (element_kind names (names a) e) e))
+    smaller (wrong_array (names a)) (smaller (wrong names Int i) (wrong names (element_kind names (names a) e) e))
 
 -- ---- arguments
 
@@ -56,7 +54,7 @@ wrong_each names es = wrong_places names [] es
 
 -- 11 for another number of arguments
 abbrev pub wrong_count : ℕ → ℕ → Option ℕ
-wrong_count wanted given = if nat_eq wanted given then None else Some 11
+wrong_count wanted given = if nat_eq wanted given then None else Some refused.argument_count
 
 abbrev pub wrong_args : Names → List Kind → List Expression → Option ℕ
 wrong_args names ks es = smaller (wrong_count (length ks) (length es)) (wrong_places names ks es)
@@ -71,7 +69,7 @@ resolved_args names ks (e ∷ es) = resolved names (first_place names ks e) e �
 abbrev pub wrong_result : Bool → Option Kind → Option ℕ
 wrong_result true None = None
 wrong_result true (Some k) = fits k Int
-wrong_result false place = Some 14
+wrong_result false place = Some refused.void_use
 
 abbrev pub wrong_use : Scope → Bool → Dest → Option ℕ
 wrong_use scope gives Nowhere = None
@@ -86,28 +84,28 @@ ints zero = []
 ints (suc n) = Int ∷ ints n
 
 abbrev pub wrong_pointer : Scope → Kind → Dest → List Expression → Option ℕ
-wrong_pointer scope Int d es = smaller (Some 10) (wrong_each (names_of scope) es)
+wrong_pointer scope Int d es = smaller (Some refused.wrong_kind) (wrong_each (names_of scope) es)
 wrong_pointer scope (Fp n) d es = smaller (wrong_effect scope) (smaller (wrong_use scope true d) (wrong_args (names_of scope) (ints n) es))
 
 abbrev pub wrong_call : Scope → Means → Dest → List Expression → Option ℕ
 wrong_call scope (Code params gives value denied) d es =
     smaller denied (smaller (wrong_use scope gives d) (wrong_args (names_of scope) params es))
 wrong_call scope (Cell k) d es = wrong_pointer scope k d es
-wrong_call scope Row d es = smaller (Some 10) (wrong_each (names_of scope) es)
+wrong_call scope Array d es = smaller (Some refused.wrong_kind) (wrong_each (names_of scope) es)
 wrong_call scope (Refused n) d es = smaller (Some n) (wrong_each (names_of scope) es)
 
 -- a call through a pointer that is written as one
 abbrev pub wrong_call_by : Scope → Means → Dest → List Expression → Option ℕ
 wrong_call_by scope (Cell k) d es = wrong_pointer scope k d es
-wrong_call_by scope (Code params gives value denied) d es = smaller (Some 10) (wrong_each (names_of scope) es)
-wrong_call_by scope Row d es = smaller (Some 10) (wrong_each (names_of scope) es)
+wrong_call_by scope (Code params gives value denied) d es = smaller (Some refused.wrong_kind) (wrong_each (names_of scope) es)
+wrong_call_by scope Array d es = smaller (Some refused.wrong_kind) (wrong_each (names_of scope) es)
 wrong_call_by scope (Refused n) d es = smaller (Some n) (wrong_each (names_of scope) es)
 
 -- only a function's parameters are places: what a pointer takes is ints, and resolved as what goes to no place
 abbrev pub places_of : Means → List Kind
 places_of (Code params gives value denied) = params
 places_of (Cell k) = []
-places_of Row = []
+places_of Array = []
 places_of (Refused n) = []
 
 abbrev pub resolved_call : Scope → Means → Pos → Dest → Bytes → List Expression → Stmt
@@ -117,7 +115,7 @@ resolved_call scope m p d f es = stmt.Call p d f (resolved_args (names_of scope)
 -- ---- return
 
 abbrev pub wrong_return : Names → Bool → Option Expression → Option ℕ
-wrong_return names true None = Some 12
+wrong_return names true None = Some refused.missing_return
 wrong_return names false None = None
 wrong_return names true (Some e) = wrong names Int e
-wrong_return names false (Some e) = smaller (Some 14) (wrong names (own_kind names e) e)
+wrong_return names false (Some e) = smaller (Some refused.void_use) (wrong names (own_kind names e) e)

@@ -1,6 +1,7 @@
 -- The typing of expressions: the smallest number that refuses one at its place, and its resolved form.
 use Rattle.std.specs.Prelude.{ℕ, ℤ, pos, zero, Bool, true, false, if◌then◌else◌, Option, Some, None}
 use Rattle.std.specs.Option.{option_or}
+use Rattle.c_lang.specs.Refusals as refused
 use Rattle.c_lang.specs.Names.{Bytes}
 use Rattle.c_lang.specs.Trees.{Expression, literal, variable, element, function, null, negation, logical_not, binary}
 use Rattle.c_lang.specs.declared.expr.Op.{Op}
@@ -9,57 +10,55 @@ use Rattle.c_lang.specs.declared.expr.Expr.{Expr}
 use Rattle.c_lang.specs.declared.expr.Expr.TheVariants.{Lit, Var, Elem, FunRef, Null, Neg, Not, Bin}
 use Rattle.c_lang.specs.declared.stmt.Kind.{Kind}
 use Rattle.c_lang.specs.declared.stmt.Kind.TheVariants.{Int, Fp}
-use Rattle.c_types.specs.declared.means.Means.{Means}
-use Rattle.c_types.specs.declared.means.Means.TheVariants.{Cell, Row, Code, Refused}
-use Rattle.c_types.specs.Names.{Names, smaller, fits}
+use Rattle.c_types.specs.Names.{Means, Cell, Array, Code, Refused, Names, smaller, fits}
 
 -- ---- a name as a value
 
 abbrev pub kind_of_name : Means → Option Kind
 kind_of_name (Cell k) = Some k
-kind_of_name Row = None
+kind_of_name Array = None
 kind_of_name (Code params gives (Some n) denied) = Some (Fp n)
 kind_of_name (Code params gives None denied) = None
 kind_of_name (Refused n) = None
 
 abbrev pub wrong_name : Kind → Means → Option ℕ
 wrong_name place (Cell k) = fits place k
-wrong_name place Row = Some 10
+wrong_name place Array = Some refused.wrong_kind
 wrong_name place (Code params gives (Some n) denied) = fits place (Fp n)
-wrong_name place (Code params gives None denied) = Some 15
+wrong_name place (Code params gives None denied) = Some refused.not_pointable
 wrong_name place (Refused n) = Some n
 
 -- a name that is written as a function's
 abbrev pub wrong_function : Kind → Means → Option ℕ
 wrong_function place (Code params gives (Some n) denied) = fits place (Fp n)
-wrong_function place (Code params gives None denied) = Some 15
+wrong_function place (Code params gives None denied) = Some refused.not_pointable
 wrong_function place (Refused n) = Some n
-wrong_function place (Cell k) = Some 10
-wrong_function place Row = Some 10
+wrong_function place (Cell k) = Some refused.wrong_kind
+wrong_function place Array = Some refused.wrong_kind
 
 abbrev pub resolved_name : Bytes → Means → Expr
 resolved_name x (Code params gives value denied) = FunRef x
 resolved_name x (Cell k) = Var x
-resolved_name x Row = Var x
+resolved_name x Array = Var x
 resolved_name x (Refused n) = Var x
 
 -- ---- an array with an index
 
-abbrev pub wrong_row : Means → Option ℕ
-wrong_row Row = None
-wrong_row (Refused n) = Some n
-wrong_row (Cell k) = Some 10
-wrong_row (Code params gives value denied) = Some 10
+abbrev pub wrong_array : Means → Option ℕ
+wrong_array Array = None
+wrong_array (Refused n) = Some n
+wrong_array (Cell k) = Some refused.wrong_kind
+wrong_array (Code params gives value denied) = Some refused.wrong_kind
 
 -- ---- the literal 0 fits a pointer's place
 
 abbrev pub wrong_literal : Kind → ℤ → Option ℕ
 wrong_literal Int z = None
 wrong_literal (Fp n) (pos zero) = None
-wrong_literal (Fp n) z = Some 10
+wrong_literal (Fp n) z = Some refused.wrong_kind
 
 abbrev pub wrong_null : Kind → Option ℕ
-wrong_null Int = Some 10
+wrong_null Int = Some refused.wrong_kind
 wrong_null (Fp n) = None
 
 abbrev pub resolved_literal : Kind → ℤ → Expr
@@ -98,7 +97,7 @@ place_of names o a b = if compares_kinds o then or_int (option_or (kind_of names
 abbrev pub wrong : Names → Kind → Expression → Option ℕ
 wrong names place (literal z) = wrong_literal place z
 wrong names place (variable x) = wrong_name place (names x)
-wrong names place (element a i) = smaller (fits place Int) (smaller (wrong_row (names a)) (wrong names Int i))
+wrong names place (element a i) = smaller (fits place Int) (smaller (wrong_array (names a)) (wrong names Int i))
 wrong names place (function f) = wrong_function place (names f)
 wrong names place null = wrong_null place
 wrong names place (negation a) = smaller (fits place Int) (wrong names Int a)

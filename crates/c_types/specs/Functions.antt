@@ -1,5 +1,7 @@
 -- The typing of functions: the head, then the body.
-use Rattle.std.specs.Prelude.{codes, ℕ, nat_lt, Bool, true, false, not, ◌&&◌, ◌||◌, if◌then◌else◌, List, [], ◌∷◌, length, Option, Some, None, Result, bytes_eq}
+use Rattle.std.specs.Prelude.{codes, ℕ, ◌+◌, nat_lt, Bool, true, false, not, ◌&&◌, ◌||◌, if◌then◌else◌, List, [], ◌∷◌, length, Option, Some, None, Result, bytes_eq}
+use Rattle.c_lang.specs.Refusals as refused
+use Rattle.c_lang.specs.Limits.{parameter_limit}
 use Rattle.c_lang.specs.Names.{Bytes}
 use Rattle.c_types.specs.Bodies.{body_of}
 use Rattle.c_lang.specs.declared.refusal.Refusal.{Refusal}
@@ -7,12 +9,8 @@ use Rattle.c_lang.specs.declared.refusal.Fail.{Fail}
 use Rattle.c_lang.specs.declared.stmt.Kind.{Kind}
 use Rattle.c_lang.specs.declared.stmt.Kind.TheVariants.{Int, Fp}
 use Rattle.c_lang.specs.declared.program.Func.{Func}
-use Rattle.c_types.specs.declared.means.Means.{Means}
-use Rattle.c_types.specs.declared.means.Means.TheVariants.{Cell, Code}
-use Rattle.c_types.specs.declared.scope.Scope.{Scope}
-use Rattle.c_types.specs.declared.scope.Block.{Block}
-use Rattle.c_types.specs.Names.{Entries, added, smaller}
-use Rattle.c_types.specs.Scopes.{wrong_fresh}
+use Rattle.c_types.specs.Names.{Means, Cell, Code, Entries, added, smaller}
+use Rattle.c_types.specs.Scopes.{Scope, Block, wrong_fresh}
 use Rattle.c_types.specs.Checks.{at_place, first, Checked}
 use Rattle.c_types.specs.Endings.{can_end}
 use Rattle.c_types.specs.Statements.{refusal_in, resolved_block}
@@ -30,7 +28,7 @@ are_ints (Fp n ∷ ks) = false
 
 -- pointers of more than 32 parameters count as pointers of 33
 abbrev pub counted : ℕ → ℕ
-counted n = if nat_lt 32 n then 33 else n
+counted n = if nat_lt parameter_limit n then parameter_limit + 1 else n
 
 -- a function's name is a value where all parameters are ints and it gives one
 abbrev pub arity_as_value : List Kind → Bool → Option ℕ
@@ -41,7 +39,7 @@ means_of_func f = Code (kinds_of f.params) f.gives (arity_as_value (kinds_of f.p
 
 abbrev pub is_wide : Kind → Bool
 is_wide Int = false
-is_wide (Fp n) = nat_lt 32 n
+is_wide (Fp n) = nat_lt parameter_limit n
 
 abbrev pub any_wide : List Kind → Bool
 any_wide [] = false
@@ -49,7 +47,7 @@ any_wide (k ∷ ks) = is_wide k || any_wide ks
 
 -- 27 for more than 32 parameters, of a function or of a pointer among them
 abbrev pub wrong_params_count : List Kind → Option ℕ
-wrong_params_count ks = if nat_lt 32 (length ks) || any_wide ks then Some 27 else None
+wrong_params_count ks = if nat_lt parameter_limit (length ks) || any_wide ks then Some refused.past_limit else None
 
 -- ---- the head
 
@@ -78,7 +76,7 @@ is_main x = bytes_eq x (codes "main")
 
 -- 12 for an `int` function other than `main` whose body can end
 abbrev pub wrong_end : Func → Option ℕ
-wrong_end f = if f.gives && not (is_main f.name) && can_end (body_of f.body) then Some 12 else None
+wrong_end f = if f.gives && not (is_main f.name) && can_end (body_of f.body) then Some refused.missing_return else None
 
 -- `again` is the number that refuses its name
 abbrev pub wrong_head : Option ℕ → Scope → Func → Option ℕ

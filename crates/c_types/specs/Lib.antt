@@ -12,3 +12,4 @@ pub mod Kept
 pub mod Typing
 pub mod Types
 pub mod Plain
+pub mod Code

@@ -1,12 +1,23 @@
 -- What names stand for, and the numbers that refuse their use.
-use Rattle.std.specs.Prelude.{ℕ, nat_lt, nat_le, Bool, true, false, if◌then◌else◌, List, [], ◌∷◌, ◌++◌, Option, Some, None, bytes_eq, position}
+use Rattle.std.specs.Prelude.{ℕ, nat_lt, nat_le, Bool, false, if◌then◌else◌, List, [], ◌∷◌, ◌++◌, Option, Some, None, bytes_eq, position}
 use Rattle.std.specs.Option.{is_some}
 use Rattle.std.specs.Map.{lookup, keys_of}
+use Rattle.c_lang.specs.Refusals as refused
 use Rattle.c_lang.specs.Names.{Bytes}
 use Rattle.c_lang.specs.Kinds.{same_kind}
 use Rattle.c_lang.specs.declared.stmt.Kind.{Kind}
-use Rattle.c_types.specs.declared.means.Means.{Means}
-use Rattle.c_types.specs.declared.means.Means.TheVariants.{Refused}
+
+-- what a name stands for where it is used
+pub data Means : Type 0 where
+  -- a global, parameter or local that holds one value
+  Cell : Kind → Means
+  -- a global array
+  Array : Means
+  -- a function: the kinds of its parameters, whether it gives a value, the number of parameters with which its
+  -- name is a value, where it is one, and the number that refuses a call of it, where one does
+  Code : List Kind → Bool → Option ℕ → Option ℕ → Means
+  -- a name that may not be used, for the reason with this number
+  Refused : ℕ → Means
 
 -- what each name stands for at a place of the text
 abbrev pub Names : Type 0
@@ -22,7 +33,7 @@ found entries x = lookup (bytes_eq x) entries
 -- a name that nothing declares is unknown
 abbrev pub meant : Option Means → Means
 meant (Some m) = m
-meant None = Refused 9
+meant None = Refused refused.unknown
 
 -- of several declarations of one name the first counts
 abbrev pub added : Entries → Bytes → Means → Entries
@@ -52,4 +63,4 @@ smaller (Some m) (Some n) = if nat_lt n m then Some n else Some m
 
 -- 10 where a kind doesn't fit its place
 abbrev pub fits : Kind → Kind → Option ℕ
-fits place k = if same_kind place k then None else Some 10
+fits place k = if same_kind place k then None else Some refused.wrong_kind

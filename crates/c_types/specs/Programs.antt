@@ -1,15 +1,15 @@
 -- The typing of programs: globals, prototypes, then functions, each in source order.
-use Rattle.std.specs.Prelude.{ℕ, ◌-◌, nat_lt, Bool, true, false, not, ◌&&◌, ◌||◌, if◌then◌else◌, List, [], ◌∷◌, length, Option, Some, None, Result}
+use Rattle.std.specs.Prelude.{ℕ, ◌-◌, nat_lt, Bool, true, false, ◌&&◌, ◌||◌, if◌then◌else◌, List, [], ◌∷◌, length, Option, Some, None, Result}
 use Rattle.std.specs.Option.{is_some}
+use Rattle.c_lang.specs.Refusals as refused
 use Rattle.c_lang.specs.Names.{Bytes}
-use Rattle.c_lang.specs.Limits.{cell_limit}
+use Rattle.c_lang.specs.Limits.{cell_limit, element_limit}
 use Rattle.c_lang.specs.Kinds.{same_kinds, same_result}
 use Rattle.c_lang.specs.declared.unit.Unit.{Unit}
 use Rattle.c_lang.specs.declared.unit.Unit.TheVariants as unit
 use Rattle.c_lang.specs.declared.unit.Pos.{Pos}
 use Rattle.c_lang.specs.declared.refusal.Refusal.{Refusal}
 use Rattle.c_lang.specs.declared.refusal.Fail.{Fail}
-use Rattle.c_lang.specs.declared.stmt.Kind.{Kind}
 use Rattle.c_lang.specs.declared.stmt.Kind.TheVariants.{Int, Fp}
 use Rattle.c_lang.specs.declared.program.Shape.{Shape}
 use Rattle.c_lang.specs.declared.program.Shape.TheVariants as shape
@@ -17,9 +17,7 @@ use Rattle.c_lang.specs.declared.program.GlobalVar.{GlobalVar}
 use Rattle.c_lang.specs.declared.program.Proto.{Proto}
 use Rattle.c_lang.specs.declared.program.Func.{Func}
 use Rattle.c_lang.specs.declared.program.Program.{Program}
-use Rattle.c_types.specs.declared.means.Means.{Means}
-use Rattle.c_types.specs.declared.means.Means.TheVariants.{Cell, Row, Code, Refused}
-use Rattle.c_types.specs.Names.{Entries, found, meant, added, smaller}
+use Rattle.c_types.specs.Names.{Means, Cell, Array, Code, Refused, Entries, found, meant, added, smaller}
 use Rattle.c_types.specs.Expressions.{wrong_function}
 use Rattle.c_types.specs.Scopes.{wrong_kind}
 use Rattle.c_types.specs.Checks.{at_place, first, Checked}
@@ -29,7 +27,7 @@ use Rattle.c_types.specs.Functions.{means_of_func, wrong_params_count, is_main, 
 
 abbrev pub means_of_shape : Shape → Means
 means_of_shape (shape.Int z) = Cell Int
-means_of_shape (shape.Arr zs) = Row
+means_of_shape (shape.Arr zs) = Array
 means_of_shape (shape.Fp n f) = Cell (Fp n)
 
 abbrev pub with_global : Entries → GlobalVar → Entries
@@ -53,7 +51,7 @@ outside_of gs fs = with_funcs (with_globals [] gs) fs
 
 -- 7 where a declaration before has the name; `seen` is what those make visible
 abbrev pub wrong_again : Entries → Bytes → Option ℕ
-wrong_again seen x = if is_some (found seen x) then Some 7 else None
+wrong_again seen x = if is_some (found seen x) then Some refused.duplicate else None
 
 -- a pointer's initial value is a function's name
 abbrev pub wrong_initial : Entries → Shape → Option ℕ
@@ -64,13 +62,13 @@ wrong_initial outside (shape.Fp n (Some f)) = wrong_function (Fp n) (meant (foun
 
 -- the first array that has no elements here is refused by the first entry of `early`
 abbrev pub early_number : List Refusal → ℕ
-early_number [] = 27
+early_number [] = refused.past_limit
 early_number (r ∷ rs) = r.number
 
 abbrev pub wrong_shape : List Refusal → Shape → Option ℕ
 wrong_shape early (shape.Int z) = None
 wrong_shape early (shape.Arr []) = Some (early_number early)
-wrong_shape early (shape.Arr (z ∷ zs)) = if nat_lt 65536 (length (z ∷ zs)) then Some 27 else None
+wrong_shape early (shape.Arr (z ∷ zs)) = if nat_lt element_limit (length (z ∷ zs)) then Some refused.past_limit else None
 wrong_shape early (shape.Fp n f) = wrong_kind (Fp n)
 
 abbrev pub cells_of : Shape → ℕ
@@ -80,7 +78,7 @@ cells_of (shape.Fp n f) = 1
 
 -- 27 for more cells than there is room for
 abbrev pub wrong_cells : ℕ → ℕ → Option ℕ
-wrong_cells room cells = if nat_lt room cells then Some 27 else None
+wrong_cells room cells = if nat_lt room cells then Some refused.past_limit else None
 
 abbrev pub wrong_global : List Refusal → Entries → Entries → ℕ → GlobalVar → Option ℕ
 wrong_global early outside seen room g =
@@ -97,11 +95,11 @@ refusal_of_globals early outside seen room (g ∷ gs) =
 
 abbrev pub wrong_match : Option Means → Proto → Option ℕ
 wrong_match (Some (Code params gives value denied)) p =
-    if same_kinds params p.params && same_result gives p.gives then None else Some 10
-wrong_match (Some (Cell k)) p = Some 9
-wrong_match (Some Row) p = Some 9
-wrong_match (Some (Refused n)) p = Some 9
-wrong_match None p = Some 9
+    if same_kinds params p.params && same_result gives p.gives then None else Some refused.wrong_kind
+wrong_match (Some (Cell k)) p = Some refused.unknown
+wrong_match (Some Array) p = Some refused.unknown
+wrong_match (Some (Refused n)) p = Some refused.unknown
+wrong_match None p = Some refused.unknown
 
 abbrev pub wrong_proto : Entries → Proto → Option ℕ
 wrong_proto functions p = smaller (wrong_match (found functions p.name) p) (wrong_params_count p.params)
@@ -139,7 +137,7 @@ has_main (f ∷ fs) = is_start f || has_main fs
 
 -- 13 where there is no `int main(void)`
 abbrev pub wrong_main : List Func → Option ℕ
-wrong_main fs = if has_main fs then None else Some 13
+wrong_main fs = if has_main fs then None else Some refused.no_start
 
 -- ---- the whole program
 

@@ -1,6 +1,7 @@
 -- The typing of statements: the first refusal of a list, and its resolved form.
 use Rattle.std.specs.Prelude.{ℕ, true, List, [], ◌∷◌, length, Option, Some, None, Result}
 use Rattle.std.specs.Option.{option_map}
+use Rattle.c_lang.specs.Refusals as refused
 use Rattle.c_lang.specs.Trees.{Statement, Statements, skip, set, set_element, call, call_by, if_else, while_loop, break_loop, return_with, assert_that, input, output, point, choice, force, pick, none, more}
 use Rattle.c_lang.specs.declared.refusal.Refusal.{Refusal}
 use Rattle.c_lang.specs.declared.refusal.Fail.{Fail}
@@ -9,11 +10,9 @@ use Rattle.c_lang.specs.declared.stmt.Dest.TheVariants.{Nowhere}
 use Rattle.c_lang.specs.declared.stmt.Kind.TheVariants.{Int}
 use Rattle.c_lang.specs.declared.stmt.Stmt.{Stmt}
 use Rattle.c_lang.specs.declared.stmt.Stmt.TheVariants as stmt
-use Rattle.c_types.specs.declared.scope.Scope.{Scope}
-use Rattle.c_types.specs.declared.scope.Block.{Block}
+use Rattle.c_types.specs.Scopes.{Scope, Block, names_of, with_dest, wrong_dest, wrong_effect}
 use Rattle.c_types.specs.Names.{Entries, smaller}
 use Rattle.c_types.specs.Expressions.{wrong, resolved}
-use Rattle.c_types.specs.Scopes.{names_of, with_dest, wrong_dest, wrong_effect}
 use Rattle.c_types.specs.Checks.{at_place, first, Checked}
 use Rattle.c_types.specs.Calls.{place_in, element_kind, wrong_element, wrong_use, wrong_call, wrong_call_by, resolved_args, resolved_call, wrong_return}
 
@@ -90,8 +89,8 @@ abbrev mutual
   refusal block scope (output p e) = at_place (smaller (wrong_effect scope) (wrong (names_of scope) Int e)) p
   refusal block scope (point p k) = at_place (wrong_effect scope) p
   refusal block scope (choice p d k) = at_place (wrong_answer block scope d) p
-  refusal block scope (force p) = at_place (Some 21) p
-  refusal block scope (pick p a b) = at_place (Some 21) p
+  refusal block scope (force p) = at_place (Some refused.client_call) p
+  refusal block scope (pick p a b) = at_place (Some refused.client_call) p
 
   -- of the statements of this block, whose locals begin at `base` and whose ahead names at `mark`
   pub refusals : Block → Scope → Statements → Option Refusal

@@ -11,16 +11,14 @@ use Rattle.c_lang.specs.declared.program.GlobalVar.{GlobalVar}
 use Rattle.c_lang.specs.declared.program.Proto.{Proto}
 use Rattle.c_lang.specs.declared.program.Func.{Func}
 use Rattle.c_lang.specs.declared.program.Program.{Program}
-use Rattle.c_types.specs.declared.means.Means.{Means}
-use Rattle.c_types.specs.declared.means.Means.TheVariants.{Cell, Row, Code, Refused}
-use Rattle.c_types.specs.declared.scope.Scope.{Scope}
-use Rattle.c_types.specs.Names.{Entries, found, meant}
+use Rattle.c_types.specs.Names.{Means, Cell, Array, Code, Refused, Entries, found, meant}
+use Rattle.c_types.specs.Scopes.{Scope}
 use Rattle.c_types.specs.Typing.{IsFunction, IsNarrow, IsFresh, AreTyped}
 use Rattle.c_types.specs.Endings.{can_end}
 use Rattle.c_types.specs.Statements.{block_in, entered}
 use Rattle.c_types.specs.Functions.{kinds_of, scope_of, with_param, params_block, body_scope, is_main}
 use Rattle.c_types.specs.Programs.{with_global, with_globals, with_func, with_funcs, outside_of, cells_of, has_main}
-use Rattle.c_lang.specs.Limits.{cell_limit}
+use Rattle.c_lang.specs.Limits.{cell_limit, element_limit, parameter_limit}
 
 -- ---- globals
 
@@ -34,7 +32,7 @@ IsInitial outside (shape.Fp n (Some f)) = IsFunction (Fp n) (meant (found outsid
 abbrev pub IsHeld : Shape → Type 0
 IsHeld (shape.Int z) = ⊤
 IsHeld (shape.Arr []) = ⊥
-IsHeld (shape.Arr (z ∷ zs)) = length (z ∷ zs) ≤ 65536
+IsHeld (shape.Arr (z ∷ zs)) = length (z ∷ zs) ≤ element_limit
 IsHeld (shape.Fp n f) = IsNarrow (Fp n)
 
 -- `seen` has what is declared before, `room` is how many cells there may still be
@@ -59,13 +57,13 @@ AreNarrow (k ∷ ks) = IsNarrow k × AreNarrow ks
 abbrev pub IsMatch : Option Means → Proto → Type 0
 IsMatch (Some (Code params gives value denied)) p = (params ≡ p.params) × (gives ≡ p.gives)
 IsMatch (Some (Cell k)) p = ⊥
-IsMatch (Some Row) p = ⊥
+IsMatch (Some Array) p = ⊥
 IsMatch (Some (Refused n)) p = ⊥
 IsMatch None p = ⊥
 
 pub record IsTypedProto (functions : Entries) (p : Proto) : Type 0 where
   pub matches : IsMatch (found functions p.name) p
-  pub few : length p.params ≤ 32
+  pub few : length p.params ≤ parameter_limit
   pub narrow : AreNarrow p.params
 
 abbrev pub AreTypedProtos : Entries → List Proto → Type 0
@@ -80,7 +78,7 @@ AreParams scope (p ∷ ps) = IsFresh params_block scope p.0 p.1 × AreParams (wi
 
 pub record IsTypedFunc (outside : Entries) (xform : Bool) (f : Func) : Type 0 where
   pub params : AreParams (scope_of outside xform f.gives) f.params
-  pub few : length (kinds_of f.params) ≤ 32
+  pub few : length (kinds_of f.params) ≤ parameter_limit
   pub narrow : AreNarrow (kinds_of f.params)
   -- only `main` may end without a value that it should give
   pub gives : f.gives ≡ true → is_main f.name ≡ false → can_end (body_of f.body) ≡ false

@@ -1,18 +1,15 @@
 -- Which expressions and statements are typed.
 use Rattle.std.specs.Prelude.{⊤, ◌≡◌, ◌≤◌, ℤ, pos, Bool, true, false, ◌&&◌, List, [], ◌∷◌, Option, Some, None}
+use Rattle.c_lang.specs.Limits.{parameter_limit}
 use Rattle.c_lang.specs.Names.{Bytes}
 use Rattle.c_lang.specs.Trees.{Expression, literal, variable, element, function, null, negation, logical_not, binary, Statement, Statements, skip, set, set_element, call, call_by, if_else, while_loop, break_loop, return_with, assert_that, input, output, point, choice, force, pick, none, more}
 use Rattle.c_lang.specs.declared.stmt.Dest.{Dest}
 use Rattle.c_lang.specs.declared.stmt.Dest.TheVariants.{Nowhere, Into, Fresh}
 use Rattle.c_lang.specs.declared.stmt.Kind.{Kind}
 use Rattle.c_lang.specs.declared.stmt.Kind.TheVariants.{Int, Fp}
-use Rattle.c_types.specs.declared.means.Means.{Means}
-use Rattle.c_types.specs.declared.means.Means.TheVariants.{Cell, Row, Code, Refused}
-use Rattle.c_types.specs.declared.scope.Scope.{Scope}
-use Rattle.c_types.specs.declared.scope.Block.{Block}
-use Rattle.c_types.specs.Names.{Names, found, stands_from, stands_before}
+use Rattle.c_types.specs.Names.{Means, Cell, Array, Code, Refused, Names, found, stands_from, stands_before}
+use Rattle.c_types.specs.Scopes.{Scope, Block, in_scope, names_of, is_another, kind_of_dest, names_version}
 use Rattle.c_types.specs.Expressions.{place_of}
-use Rattle.c_types.specs.Scopes.{in_scope, names_of, is_another, kind_of_dest, names_version}
 use Rattle.c_types.specs.Calls.{place_in, ints}
 use Rattle.c_types.specs.Statements.{scope_after, block_in, entered, after_block}
 
@@ -20,7 +17,7 @@ use Rattle.c_types.specs.Statements.{scope_after, block_in, entered, after_block
 
 abbrev pub IsValue : Kind → Means → Type 0
 IsValue place (Cell k) = place ≡ k
-IsValue place Row = ⊥
+IsValue place Array = ⊥
 IsValue place (Code params gives (Some n) denied) = place ≡ Fp n
 IsValue place (Code params gives None denied) = ⊥
 IsValue place (Refused n) = ⊥
@@ -29,14 +26,14 @@ abbrev pub IsFunction : Kind → Means → Type 0
 IsFunction place (Code params gives (Some n) denied) = place ≡ Fp n
 IsFunction place (Code params gives None denied) = ⊥
 IsFunction place (Cell k) = ⊥
-IsFunction place Row = ⊥
+IsFunction place Array = ⊥
 IsFunction place (Refused n) = ⊥
 
-abbrev pub IsRow : Means → Type 0
-IsRow Row = ⊤
-IsRow (Cell k) = ⊥
-IsRow (Code params gives value denied) = ⊥
-IsRow (Refused n) = ⊥
+abbrev pub IsArray : Means → Type 0
+IsArray Array = ⊤
+IsArray (Cell k) = ⊥
+IsArray (Code params gives value denied) = ⊥
+IsArray (Refused n) = ⊥
 
 -- the literal 0 fits a pointer's place
 abbrev pub IsLiteral : Kind → ℤ → Type 0
@@ -50,7 +47,7 @@ IsPointer (Fp n) = ⊤
 abbrev pub IsTyped : Names → Kind → Expression → Type 0
 IsTyped names place (literal z) = IsLiteral place z
 IsTyped names place (variable x) = IsValue place (names x)
-IsTyped names place (element a i) = (place ≡ Int) × IsRow (names a) × IsTyped names Int i
+IsTyped names place (element a i) = (place ≡ Int) × IsArray (names a) × IsTyped names Int i
 IsTyped names place (function f) = IsFunction place (names f)
 IsTyped names place null = IsPointer place
 IsTyped names place (negation a) = (place ≡ Int) × IsTyped names Int a
@@ -63,7 +60,7 @@ IsTyped names place (binary o a b) =
 -- a pointer has at most 32 parameters
 abbrev pub IsNarrow : Kind → Type 0
 IsNarrow Int = ⊤
-IsNarrow (Fp n) = n ≤ 32
+IsNarrow (Fp n) = n ≤ parameter_limit
 
 -- a local that may be declared here
 pub record IsFresh (block : Block) (scope : Scope) (k : Kind) (x : Bytes) : Type 0 where
@@ -80,7 +77,7 @@ pub record IsFresh (block : Block) (scope : Scope) (k : Kind) (x : Bytes) : Type
 
 abbrev pub IsCell : Means → Type 0
 IsCell (Cell k) = ⊤
-IsCell Row = ⊥
+IsCell Array = ⊥
 IsCell (Code params gives value denied) = ⊥
 IsCell (Refused n) = ⊥
 
@@ -115,13 +112,13 @@ abbrev pub IsCall : Scope → Means → Dest → List Expression → Type 0
 IsCall scope (Code params gives value denied) d es =
     (denied ≡ None) × IsUse scope gives d × AreArguments (names_of scope) params es
 IsCall scope (Cell k) d es = IsPointerCall scope k d es
-IsCall scope Row d es = ⊥
+IsCall scope Array d es = ⊥
 IsCall scope (Refused n) d es = ⊥
 
 abbrev pub IsCallBy : Scope → Means → Dest → List Expression → Type 0
 IsCallBy scope (Cell k) d es = IsPointerCall scope k d es
 IsCallBy scope (Code params gives value denied) d es = ⊥
-IsCallBy scope Row d es = ⊥
+IsCallBy scope Array d es = ⊥
 IsCallBy scope (Refused n) d es = ⊥
 
 abbrev pub IsReturn : Names → Bool → Option Expression → Type 0
@@ -141,7 +138,7 @@ abbrev mutual
   IsTypedStatement block scope (skip p) = ⊤
   IsTypedStatement block scope (set p d e) = IsDest block scope d × IsTyped (names_of scope) (place_in scope d e) e
   IsTypedStatement block scope (set_element p a i e) =
-      IsRow (names_of scope a) × IsTyped (names_of scope) Int i × IsTyped (names_of scope) Int e
+      IsArray (names_of scope a) × IsTyped (names_of scope) Int i × IsTyped (names_of scope) Int e
   IsTypedStatement block scope (call p d f es) = IsDest block scope d × IsCall scope (names_of scope f) d es
   IsTypedStatement block scope (call_by p d x es) = IsDest block scope d × IsCallBy scope (names_of scope x) d es
   IsTypedStatement block scope (if_else p e xs ys) =

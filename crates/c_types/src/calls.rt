@@ -4,22 +4,24 @@ ghost use Rattle.std.specs.Prelude.{◌≡◌, IfOk, map, []};
 ghost use Rattle.std.specs.Option.{option_copied, option_map};
 ghost use Rattle.c_lang.specs.Trees.{expression_of};
 ghost use Rattle.c_lang.specs.declared.stmt.Kind.TheVariants.{Int};
+ghost use Rattle.c_types.specs.Code.SeenScopes.{seen_scope};
+ghost use Rattle.c_types.specs.Code.SeenMeans.{seen_name};
 ghost use Rattle.c_types.specs.Names.{meant};
 ghost use Rattle.c_types.specs.Scopes.{names_of};
 ghost use Rattle.c_types.specs.Expressions.{resolved};
 ghost use Rattle.c_types.specs.Calls as spec;
 
-use crate::expressions::{own_kind, wrong, wrong_row};
+use crate::expressions::{own_kind, wrong, wrong_array};
 use crate::means::{Means, fits, smaller};
 use crate::resolving::resolve;
 use crate::scope::{Scope, copy_dest, kind_of_dest, wrong_effect};
-use c_lang::{Dest, Expr, Kind, Name, Pos, Stmt};
+use c_lang::{Dest, Expr, Kind, Name, Pos, Stmt, refusal};
 use sqlite_items::Items;
 use std::alloc::{AllocError, Global};
 
 /// The place of a value that goes to the destination.
 pub fn place_in(scope: &Scope, dest: &Dest, e: &Expr) -> Kind
-    ensures { result ≡ spec.place_in scope.now dest.now (expression_of e.now) }
+    ensures { result ≡ spec.place_in (seen_scope scope.now) dest.now (expression_of e.now) }
 {
     match kind_of_dest(scope, dest) {
         Some(kind) => kind,
@@ -29,26 +31,26 @@ pub fn place_in(scope: &Scope, dest: &Dest, e: &Expr) -> Kind
 
 /// The place of a value that goes to an element.
 pub fn element_kind(scope: &Scope, array: Option<&Means>, e: &Expr) -> Kind
-    ensures { result ≡ spec.element_kind (names_of scope.now) (meant (option_copied array.entry)) (expression_of e.now) }
+    ensures { result ≡ spec.element_kind (names_of (seen_scope scope.now)) (meant (seen_name (option_copied array.entry))) (expression_of e.now) }
 {
     match array {
-        Some(Means::Row) => Kind::Int,
+        Some(Means::Array) => Kind::Int,
         _ => own_kind(scope, e),
     }
 }
 
 /// The number that refuses `array[index] = value`.
 pub fn wrong_element(scope: &Scope, array: &Name, index: &Expr, value: &Expr) -> Option<u8>
-    ensures { result ≡ spec.wrong_element (names_of scope.now) array.now (expression_of index.now) (expression_of value.now) }
+    ensures { result ≡ spec.wrong_element (names_of (seen_scope scope.now)) array.now (expression_of index.now) (expression_of value.now) }
 {
     let row = scope.look(array);
     let kind = element_kind(scope, row, value);
     let inside = smaller(wrong(scope, Kind::Int, index), wrong(scope, kind, value));
-    smaller(wrong_row(row), inside)
+    smaller(wrong_array(row), inside)
 }
 
 fn first_place(scope: &Scope, places: &[Kind], e: &Expr) -> Kind
-    ensures { result ≡ spec.first_place (names_of scope.now) places.now (expression_of e.now) }
+    ensures { result ≡ spec.first_place (names_of (seen_scope scope.now)) places.now (expression_of e.now) }
 {
     match places {
         [place, _others @ ..] => *place,
@@ -67,7 +69,7 @@ fn other_places(places: &[Kind]) -> &[Kind]
 
 #[tactic(auto, using(crate::proofs::ArgumentLaws::places_step))]
 fn wrong_places(scope: &Scope, params: &[Kind], args: &[Expr]) -> Option<u8>
-    ensures { result ≡ spec.wrong_places (names_of scope.now) params.now (map expression_of args.now) }
+    ensures { result ≡ spec.wrong_places (names_of (seen_scope scope.now)) params.now (map expression_of args.now) }
 {
     let mut number = None;
     let mut left = params;
@@ -79,7 +81,7 @@ fn wrong_places(scope: &Scope, params: &[Kind], args: &[Expr]) -> Option<u8>
 }
 
 fn wrong_each(scope: &Scope, args: &[Expr]) -> Option<u8>
-    ensures { result ≡ spec.wrong_each (names_of scope.now) (map expression_of args.now) }
+    ensures { result ≡ spec.wrong_each (names_of (seen_scope scope.now)) (map expression_of args.now) }
 {
     wrong_places(scope, &[], args)
 }
@@ -87,18 +89,22 @@ fn wrong_each(scope: &Scope, args: &[Expr]) -> Option<u8>
 fn wrong_count(wanted: usize, given: usize) -> Option<u8>
     ensures { result ≡ spec.wrong_count wanted given }
 {
-    if wanted == given { None } else { Some(11) }
+    if wanted == given {
+        None
+    } else {
+        Some(refusal::ARGUMENT_COUNT)
+    }
 }
 
 fn wrong_args(scope: &Scope, params: &[Kind], args: &[Expr]) -> Option<u8>
-    ensures { result ≡ spec.wrong_args (names_of scope.now) params.now (map expression_of args.now) }
+    ensures { result ≡ spec.wrong_args (names_of (seen_scope scope.now)) params.now (map expression_of args.now) }
 {
     let inside = wrong_places(scope, params, args);
     smaller(wrong_count(params.len(), args.len()), inside)
 }
 
 fn first_int(scope: &Scope, count: u8, e: &Expr) -> Kind
-    ensures { result ≡ spec.first_place (names_of scope.now) (spec.ints count) (expression_of e.now) }
+    ensures { result ≡ spec.first_place (names_of (seen_scope scope.now)) (spec.ints count) (expression_of e.now) }
 {
     if count > 0 {
         Kind::Int
@@ -116,7 +122,7 @@ fn other_ints(count: u8) -> u8
 
 #[tactic(auto, using(crate::proofs::ArgumentLaws::places_step))]
 fn wrong_int_places(scope: &Scope, count: u8, args: &[Expr]) -> Option<u8>
-    ensures { result ≡ spec.wrong_places (names_of scope.now) (spec.ints count) (map expression_of args.now) }
+    ensures { result ≡ spec.wrong_places (names_of (seen_scope scope.now)) (spec.ints count) (map expression_of args.now) }
 {
     let mut number = None;
     let mut left = count;
@@ -130,7 +136,7 @@ fn wrong_int_places(scope: &Scope, count: u8, args: &[Expr]) -> Option<u8>
 // The arguments of a call through a pointer.
 #[tactic(auto, using(crate::proofs::ArgumentLaws::ints_counted))]
 fn wrong_ints(scope: &Scope, count: u8, args: &[Expr]) -> Option<u8>
-    ensures { result ≡ spec.wrong_args (names_of scope.now) (spec.ints count) (map expression_of args.now) }
+    ensures { result ≡ spec.wrong_args (names_of (seen_scope scope.now)) (spec.ints count) (map expression_of args.now) }
 {
     let inside = wrong_int_places(scope, count, args);
     smaller(wrong_count(count as usize, args.len()), inside)
@@ -142,13 +148,13 @@ fn wrong_result(gives: bool, kind: Option<Kind>) -> Option<u8>
     match (gives, kind) {
         (true, None) => None,
         (true, Some(kind)) => fits(kind, Kind::Int),
-        (false, _) => Some(14),
+        (false, _) => Some(refusal::VOID_USE),
     }
 }
 
 /// The number that refuses the use of a call's result.
 pub fn wrong_use(scope: &Scope, gives: bool, dest: &Dest) -> Option<u8>
-    ensures { result ≡ spec.wrong_use scope.now gives dest.now }
+    ensures { result ≡ spec.wrong_use (seen_scope scope.now) gives dest.now }
 {
     match dest {
         Dest::Nowhere => None,
@@ -157,10 +163,10 @@ pub fn wrong_use(scope: &Scope, gives: bool, dest: &Dest) -> Option<u8>
 }
 
 fn wrong_pointer(scope: &Scope, kind: Kind, dest: &Dest, args: &[Expr]) -> Option<u8>
-    ensures { result ≡ spec.wrong_pointer scope.now kind dest.now (map expression_of args.now) }
+    ensures { result ≡ spec.wrong_pointer (seen_scope scope.now) kind dest.now (map expression_of args.now) }
 {
     match kind {
-        Kind::Int => smaller(Some(10), wrong_each(scope, args)),
+        Kind::Int => smaller(Some(refusal::WRONG_KIND), wrong_each(scope, args)),
         Kind::Fp(count) => {
             let inside = smaller(wrong_use(scope, true, dest), wrong_ints(scope, count, args));
             smaller(wrong_effect(scope), inside)
@@ -170,7 +176,7 @@ fn wrong_pointer(scope: &Scope, kind: Kind, dest: &Dest, args: &[Expr]) -> Optio
 
 /// The number that refuses a call of this name.
 pub fn wrong_call(scope: &Scope, callee: Option<&Means>, dest: &Dest, args: &[Expr]) -> Option<u8>
-    ensures { result ≡ spec.wrong_call scope.now (meant (option_copied callee.entry)) dest.now (map expression_of args.now) }
+    ensures { result ≡ spec.wrong_call (seen_scope scope.now) (meant (seen_name (option_copied callee.entry))) dest.now (map expression_of args.now) }
 {
     match callee {
         Some(
@@ -185,9 +191,9 @@ pub fn wrong_call(scope: &Scope, callee: Option<&Means>, dest: &Dest, args: &[Ex
             smaller(*denied, smaller(wrong_use(scope, *gives, dest), inside))
         }
         Some(Means::Cell(kind)) => wrong_pointer(scope, *kind, dest, args),
-        Some(Means::Row) => smaller(Some(10), wrong_each(scope, args)),
+        Some(Means::Array) => smaller(Some(refusal::WRONG_KIND), wrong_each(scope, args)),
         Some(Means::Refused(n)) => smaller(Some(*n), wrong_each(scope, args)),
-        None => smaller(Some(9), wrong_each(scope, args)),
+        None => smaller(Some(refusal::UNKNOWN), wrong_each(scope, args)),
     }
 }
 
@@ -198,14 +204,14 @@ pub fn wrong_call_by(
     dest: &Dest,
     args: &[Expr],
 ) -> Option<u8>
-    ensures { result ≡ spec.wrong_call_by scope.now (meant (option_copied pointer.entry)) dest.now (map expression_of args.now) }
+    ensures { result ≡ spec.wrong_call_by (seen_scope scope.now) (meant (seen_name (option_copied pointer.entry))) dest.now (map expression_of args.now) }
 {
     match pointer {
         Some(Means::Cell(kind)) => wrong_pointer(scope, *kind, dest, args),
-        Some(Means::Code { .. }) => smaller(Some(10), wrong_each(scope, args)),
-        Some(Means::Row) => smaller(Some(10), wrong_each(scope, args)),
+        Some(Means::Code { .. }) => smaller(Some(refusal::WRONG_KIND), wrong_each(scope, args)),
+        Some(Means::Array) => smaller(Some(refusal::WRONG_KIND), wrong_each(scope, args)),
         Some(Means::Refused(n)) => smaller(Some(*n), wrong_each(scope, args)),
-        None => smaller(Some(9), wrong_each(scope, args)),
+        None => smaller(Some(refusal::UNKNOWN), wrong_each(scope, args)),
     }
 }
 
@@ -216,7 +222,7 @@ pub fn resolve_args(
     params: &[Kind],
     args: &[Expr],
 ) -> Result<Items<Expr>, AllocError>
-    ensures { IfOk result (λ exprs. exprs ≡ spec.resolved_args (names_of scope.now) params.now (map expression_of args.now)) }
+    ensures { IfOk result (λ exprs. exprs ≡ spec.resolved_args (names_of (seen_scope scope.now)) params.now (map expression_of args.now)) }
 {
     let mut all = Items::new(alloc);
     let mut left = params;
@@ -235,12 +241,12 @@ fn resolve_given(
     callee: Option<&Means>,
     args: &[Expr],
 ) -> Result<Items<Expr>, AllocError>
-    ensures { IfOk result (λ exprs. exprs ≡ spec.resolved_args (names_of scope.now) (spec.places_of (meant (option_copied callee.entry))) (map expression_of args.now)) }
+    ensures { IfOk result (λ exprs. exprs ≡ spec.resolved_args (names_of (seen_scope scope.now)) (spec.places_of (meant (seen_name (option_copied callee.entry)))) (map expression_of args.now)) }
 {
     match callee {
         Some(Means::Code { params, .. }) => resolve_args(alloc, scope, params.as_slice(), args),
         Some(Means::Cell(_)) => resolve_args(alloc, scope, &[], args),
-        Some(Means::Row) => resolve_args(alloc, scope, &[], args),
+        Some(Means::Array) => resolve_args(alloc, scope, &[], args),
         Some(Means::Refused(_)) => resolve_args(alloc, scope, &[], args),
         None => resolve_args(alloc, scope, &[], args),
     }
@@ -255,7 +261,7 @@ pub fn resolve_call(
     callee: &Name,
     args: &[Expr],
 ) -> Result<Stmt, AllocError>
-    ensures { IfOk result (λ stmt. stmt ≡ spec.resolved_call scope.now (names_of scope.now callee.now) pos dest.now callee.now (map expression_of args.now)) }
+    ensures { IfOk result (λ stmt. stmt ≡ spec.resolved_call (seen_scope scope.now) (names_of (seen_scope scope.now) callee.now) pos dest.now callee.now (map expression_of args.now)) }
 {
     let dest = copy_dest(alloc, dest)?;
     let name = callee.copy(alloc)?;
@@ -268,7 +274,7 @@ pub fn resolve_call(
             pointer: name,
             args,
         }),
-        Some(Means::Code { .. }) | Some(Means::Row) | Some(Means::Refused(_)) | None => {
+        Some(Means::Code { .. }) | Some(Means::Array) | Some(Means::Refused(_)) | None => {
             Ok(Stmt::Call {
                 pos,
                 dest,
@@ -281,13 +287,13 @@ pub fn resolve_call(
 
 /// The number that refuses a `return`.
 pub fn wrong_return(scope: &Scope, gives: bool, value: &Option<Expr>) -> Option<u8>
-    ensures { result ≡ spec.wrong_return (names_of scope.now) gives (option_map expression_of value.now) }
+    ensures { result ≡ spec.wrong_return (names_of (seen_scope scope.now)) gives (option_map expression_of value.now) }
 {
     match (gives, value) {
-        (true, None) => Some(12),
+        (true, None) => Some(refusal::MISSING_RETURN),
         (false, None) => None,
         (true, Some(e)) => wrong(scope, Kind::Int, e),
-        (false, Some(e)) => smaller(Some(14), wrong(scope, own_kind(scope, e), e)),
+        (false, Some(e)) => smaller(Some(refusal::VOID_USE), wrong(scope, own_kind(scope, e), e)),
     }
 }
 
@@ -297,7 +303,7 @@ pub fn resolve_value(
     scope: &Scope,
     value: &Option<Expr>,
 ) -> Result<Option<Expr>, AllocError>
-    ensures { IfOk result (λ expr. expr ≡ option_map (resolved (names_of scope.now) Int) (option_map expression_of value.now)) }
+    ensures { IfOk result (λ expr. expr ≡ option_map (resolved (names_of (seen_scope scope.now)) Int) (option_map expression_of value.now)) }
 {
     match value {
         None => Ok(None),

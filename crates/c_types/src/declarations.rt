@@ -2,6 +2,7 @@
 
 ghost use Rattle.std.specs.Prelude.{◌≡◌, OnOk, IfOk, []};
 ghost use Rattle.std.specs.Option.{option_copied};
+ghost use Rattle.c_types.specs.Code.SeenMeans.{seen_means, seen_name};
 ghost use Rattle.c_types.specs.Checks.{Checked};
 ghost use Rattle.c_types.specs.Programs as spec;
 
@@ -12,17 +13,18 @@ use crate::scope::wrong_kind;
 use crate::simple::stop;
 use crate::symbols::Symbols;
 use c_lang::{
-    Fail, Func, GlobalVar, Kind, Name, Proto, Refusal, Shape, Unit, same_kinds, same_result,
+    ELEMENT_LIMIT, Fail, Func, GlobalVar, Kind, Name, Proto, Refusal, Shape, Unit, refusal,
+    same_kinds, same_result,
 };
 use std::alloc::{AllocError, Global};
 
 /// What the name of a global of this shape stands for.
 pub fn means_of_shape(shape: &Shape) -> Means
-    ensures { result ≡ spec.means_of_shape shape.now }
+    ensures { seen_means result ≡ spec.means_of_shape shape.now }
 {
     match shape {
         Shape::Int(_) => Means::Cell(Kind::Int),
-        Shape::Arr(_) => Means::Row,
+        Shape::Arr(_) => Means::Array,
         Shape::Fp(n, _) => Means::Cell(Kind::Fp(*n)),
     }
 }
@@ -78,11 +80,12 @@ pub fn outside_of(
 }
 
 /// 7 where the name is there already.
+#[tactic(auto, using(crate::proofs::SymbolLaws::is_some_seen))]
 pub fn wrong_again(seen: &Symbols, name: &Name) -> Option<u8>
     ensures { result ≡ spec.wrong_again seen.now name.now }
 {
     if seen.find(name).is_some() {
-        Some(7)
+        Some(refusal::DUPLICATE)
     } else {
         None
     }
@@ -102,7 +105,7 @@ fn early_number(early: &[Refusal]) -> u8
 {
     match early {
         [why, ..] => why.number,
-        [] => 27,
+        [] => refusal::PAST_LIMIT,
     }
 }
 
@@ -114,8 +117,8 @@ fn wrong_shape(early: &[Refusal], shape: &Shape) -> Option<u8>
         Shape::Arr(elements) => match elements.as_slice() {
             [] => Some(early_number(early)),
             [_z, _zs @ ..] => {
-                if elements.len() > 65_536 {
-                    Some(27)
+                if elements.len() > ELEMENT_LIMIT as usize {
+                    Some(refusal::PAST_LIMIT)
                 } else {
                     None
                 }
@@ -137,7 +140,11 @@ fn cells_of(shape: &Shape) -> usize
 fn wrong_cells(room: usize, cells: usize) -> Option<u8>
     ensures { result ≡ spec.wrong_cells room cells }
 {
-    if cells > room { Some(27) } else { None }
+    if cells > room {
+        Some(refusal::PAST_LIMIT)
+    } else {
+        None
+    }
 }
 
 fn wrong_global(
@@ -179,17 +186,19 @@ pub fn check_globals(
 }
 
 fn wrong_match(function: Option<&Means>, p: &Proto) -> Option<u8>
-    ensures { result ≡ spec.wrong_match (option_copied function.entry) p.now }
+    ensures { result ≡ spec.wrong_match (seen_name (option_copied function.entry)) p.now }
 {
     match function {
         Some(Means::Code { params, gives, .. }) => {
             if same_kinds(params.as_slice(), p.params.as_slice()) && same_result(*gives, p.gives) {
                 None
             } else {
-                Some(10)
+                Some(refusal::WRONG_KIND)
             }
         }
-        Some(Means::Cell(_)) | Some(Means::Row) | Some(Means::Refused(_)) | None => Some(9),
+        Some(Means::Cell(_)) | Some(Means::Array) | Some(Means::Refused(_)) | None => Some(
+            refusal::UNKNOWN,
+        ),
     }
 }
 

@@ -3,16 +3,18 @@
 ghost use Rattle.std.specs.Prelude.{◌≡◌};
 ghost use Rattle.std.specs.Option.{option_copied};
 ghost use Rattle.c_lang.specs.Trees.{expression_of};
+ghost use Rattle.c_types.specs.Code.SeenScopes.{seen_scope};
+ghost use Rattle.c_types.specs.Code.SeenMeans.{seen_name};
 ghost use Rattle.c_types.specs.Names.{meant};
 ghost use Rattle.c_types.specs.Scopes.{names_of, in_scope};
 ghost use Rattle.c_types.specs.Expressions as spec;
 
 use crate::means::{Means, fits, smaller};
 use crate::scope::Scope;
-use c_lang::{Expr, Kind, Op};
+use c_lang::{Expr, Kind, Op, refusal};
 
 fn kind_of_name(means: Option<&Means>) -> Option<Kind>
-    ensures { result ≡ spec.kind_of_name (meant (option_copied means.entry)) }
+    ensures { result ≡ spec.kind_of_name (meant (seen_name (option_copied means.entry))) }
 {
     match means {
         Some(Means::Cell(kind)) => Some(*kind),
@@ -23,40 +25,40 @@ fn kind_of_name(means: Option<&Means>) -> Option<Kind>
 
 /// The number that refuses a name as a value at this place.
 pub fn wrong_name(place: Kind, means: Option<&Means>) -> Option<u8>
-    ensures { result ≡ spec.wrong_name place (meant (option_copied means.entry)) }
+    ensures { result ≡ spec.wrong_name place (meant (seen_name (option_copied means.entry))) }
 {
     match means {
         Some(Means::Cell(kind)) => fits(place, *kind),
-        Some(Means::Row) => Some(10),
+        Some(Means::Array) => Some(refusal::WRONG_KIND),
         Some(Means::Code { value: Some(n), .. }) => fits(place, Kind::Fp(*n)),
-        Some(Means::Code { value: None, .. }) => Some(15),
+        Some(Means::Code { value: None, .. }) => Some(refusal::NOT_POINTABLE),
         Some(Means::Refused(n)) => Some(*n),
-        None => Some(9),
+        None => Some(refusal::UNKNOWN),
     }
 }
 
 /// The number that refuses a function's name as a value at this place.
 pub fn wrong_function(place: Kind, means: Option<&Means>) -> Option<u8>
-    ensures { result ≡ spec.wrong_function place (meant (option_copied means.entry)) }
+    ensures { result ≡ spec.wrong_function place (meant (seen_name (option_copied means.entry))) }
 {
     match means {
         Some(Means::Code { value: Some(n), .. }) => fits(place, Kind::Fp(*n)),
-        Some(Means::Code { value: None, .. }) => Some(15),
+        Some(Means::Code { value: None, .. }) => Some(refusal::NOT_POINTABLE),
         Some(Means::Refused(n)) => Some(*n),
-        Some(Means::Cell(_)) | Some(Means::Row) => Some(10),
-        None => Some(9),
+        Some(Means::Cell(_)) | Some(Means::Array) => Some(refusal::WRONG_KIND),
+        None => Some(refusal::UNKNOWN),
     }
 }
 
 /// The number that refuses a name in front of an index.
-pub fn wrong_row(means: Option<&Means>) -> Option<u8>
-    ensures { result ≡ spec.wrong_row (meant (option_copied means.entry)) }
+pub fn wrong_array(means: Option<&Means>) -> Option<u8>
+    ensures { result ≡ spec.wrong_array (meant (seen_name (option_copied means.entry))) }
 {
     match means {
-        Some(Means::Row) => None,
+        Some(Means::Array) => None,
         Some(Means::Refused(n)) => Some(*n),
-        None => Some(9),
-        _ => Some(10),
+        None => Some(refusal::UNKNOWN),
+        _ => Some(refusal::WRONG_KIND),
     }
 }
 
@@ -65,7 +67,13 @@ fn wrong_literal(place: Kind, number: i32) -> Option<u8>
 {
     match place {
         Kind::Int => None,
-        Kind::Fp(_) => { if number == 0 { None } else { Some(10) } }
+        Kind::Fp(_) => {
+            if number == 0 {
+                None
+            } else {
+                Some(refusal::WRONG_KIND)
+            }
+        }
     }
 }
 
@@ -73,13 +81,13 @@ fn wrong_null(place: Kind) -> Option<u8>
     ensures { result ≡ spec.wrong_null place }
 {
     match place {
-        Kind::Int => Some(10),
+        Kind::Int => Some(refusal::WRONG_KIND),
         Kind::Fp(_) => None,
     }
 }
 
 fn kind_of(scope: &Scope, e: &Expr) -> Option<Kind>
-    ensures { result ≡ spec.kind_of (names_of scope.now) (expression_of e.now) }
+    ensures { result ≡ spec.kind_of (names_of (seen_scope scope.now)) (expression_of e.now) }
 {
     match e {
         Expr::Lit(0) | Expr::Null => None,
@@ -90,7 +98,7 @@ fn kind_of(scope: &Scope, e: &Expr) -> Option<Kind>
 
 /// The kind of a value that goes to no place: `Int` where it fits every place.
 pub fn own_kind(scope: &Scope, e: &Expr) -> Kind
-    ensures { result ≡ spec.own_kind (names_of scope.now) (expression_of e.now) }
+    ensures { result ≡ spec.own_kind (names_of (seen_scope scope.now)) (expression_of e.now) }
 {
     match kind_of(scope, e) {
         Some(kind) => kind,
@@ -106,7 +114,7 @@ fn compares_kinds(op: Op) -> bool
 
 /// The kind that both operands have to have.
 pub fn place_of(scope: &Scope, op: Op, a: &Expr, b: &Expr) -> Kind
-    ensures { result ≡ spec.place_of (names_of scope.now) op (expression_of a.now) (expression_of b.now) }
+    ensures { result ≡ spec.place_of (names_of (seen_scope scope.now)) op (expression_of a.now) (expression_of b.now) }
 {
     if !compares_kinds(op) {
         return Kind::Int;
@@ -119,13 +127,13 @@ pub fn place_of(scope: &Scope, op: Op, a: &Expr, b: &Expr) -> Kind
 
 /// The smallest number that refuses the expression at its place.
 pub fn wrong(scope: &Scope, place: Kind, e: &Expr) -> Option<u8>
-    ensures { result ≡ spec.wrong (names_of scope.now) place (expression_of e.now) }
+    ensures { result ≡ spec.wrong (names_of (seen_scope scope.now)) place (expression_of e.now) }
 {
     match e {
         Expr::Lit(z) => wrong_literal(place, *z),
         Expr::Var(x) => wrong_name(place, scope.look(x)),
         Expr::Elem(a, i) => {
-            let inside = smaller(wrong_row(scope.look(a)), wrong(scope, Kind::Int, i.get()));
+            let inside = smaller(wrong_array(scope.look(a)), wrong(scope, Kind::Int, i.get()));
             smaller(fits(place, Kind::Int), inside)
         }
         Expr::FunRef(f) => wrong_function(place, scope.look(f)),

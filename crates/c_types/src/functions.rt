@@ -2,6 +2,8 @@
 
 ghost use Rattle.std.specs.Prelude.{◌≡◌, IfOk, OnOk, None, map};
 ghost use Rattle.c_lang.specs.Trees.{statement_of, statements};
+ghost use Rattle.c_types.specs.Code.SeenScopes.{seen_scope};
+ghost use Rattle.c_types.specs.Code.SeenMeans.{seen_means};
 ghost use Rattle.c_types.specs.Checks.{Checked};
 ghost use Rattle.c_types.specs.Functions as spec;
 
@@ -10,7 +12,7 @@ use crate::means::{Means, smaller};
 use crate::scope::{Block, Scope, wrong_fresh};
 use crate::simple::stop;
 use crate::statements::body;
-use c_lang::{Fail, Func, Kind, Name};
+use c_lang::{Fail, Func, Kind, Name, PARAMETER_LIMIT, refusal};
 use sqlite_items::Items;
 use std::alloc::{AllocError, Global};
 
@@ -40,7 +42,11 @@ fn are_ints(kinds: &[Kind]) -> bool
 fn counted(count: usize) -> u8
     ensures { result ≡ spec.counted count }
 {
-    if count > 32 { 33 } else { count as u8 }
+    if count > PARAMETER_LIMIT as usize {
+        PARAMETER_LIMIT + 1
+    } else {
+        count as u8
+    }
 }
 
 /// The number of parameters with which a function's name is a value, where it is one.
@@ -56,7 +62,7 @@ pub fn arity_as_value(kinds: &[Kind], gives: bool) -> Option<u8>
 
 /// What the function's name stands for in its unit. The only error is want of memory.
 pub fn means_of_func(alloc: Global, f: &Func) -> Result<Means, AllocError>
-    ensures { IfOk result (λ means. means ≡ spec.means_of_func f.now) }
+    ensures { IfOk result (λ means. seen_means means ≡ spec.means_of_func f.now) }
 {
     let params = kinds_of(alloc, f.params.as_slice())?;
     let value = arity_as_value(params.as_slice(), f.gives);
@@ -73,7 +79,7 @@ fn is_wide(kind: Kind) -> bool
 {
     match kind {
         Kind::Int => false,
-        Kind::Fp(n) => n > 32,
+        Kind::Fp(n) => n > PARAMETER_LIMIT,
     }
 }
 
@@ -92,8 +98,8 @@ fn any_wide(kinds: &[Kind]) -> bool
 pub fn wrong_params_count(kinds: &[Kind]) -> Option<u8>
     ensures { result ≡ spec.wrong_params_count kinds.now }
 {
-    if kinds.len() > 32 || any_wide(kinds) {
-        Some(27)
+    if kinds.len() > PARAMETER_LIMIT as usize || any_wide(kinds) {
+        Some(refusal::PAST_LIMIT)
     } else {
         None
     }
@@ -105,8 +111,8 @@ fn add_params(
     scope: &mut Scope,
     params: &[(Kind, Name)],
 ) -> Result<Option<u8>, AllocError>
-    ensures number { IfOk result (λ number. number ≡ spec.wrong_params scope.old None params.now) }
-    ensures scope { OnOk result (scope.new ≡ spec.with_params scope.old params.now) }
+    ensures number { IfOk result (λ number. number ≡ spec.wrong_params (seen_scope scope.old) None params.now) }
+    ensures scope { OnOk result (seen_scope scope.new ≡ spec.with_params (seen_scope scope.old) params.now) }
 {
     let mut number = None;
     for p in params {
@@ -128,7 +134,7 @@ fn wrong_end(f: &Func) -> Option<u8>
     ensures { result ≡ spec.wrong_end f.now }
 {
     if f.gives && !is_main(&f.name) && can_end(f.body.as_slice()) {
-        Some(12)
+        Some(refusal::MISSING_RETURN)
     } else {
         None
     }
@@ -141,8 +147,8 @@ fn add_head(
     again: Option<u8>,
     f: &Func,
 ) -> Result<Option<u8>, AllocError>
-    ensures number { IfOk result (λ number. number ≡ spec.wrong_head again scope.old f.now) }
-    ensures scope { OnOk result (scope.new ≡ spec.with_params scope.old f.now.params) }
+    ensures number { IfOk result (λ number. number ≡ spec.wrong_head again (seen_scope scope.old) f.now) }
+    ensures scope { OnOk result (seen_scope scope.new ≡ spec.with_params (seen_scope scope.old) f.now.params) }
 {
     let params = add_params(alloc, scope, f.params.as_slice())?;
     let kinds = kinds_of(alloc, f.params.as_slice())?;
@@ -151,7 +157,7 @@ fn add_head(
 }
 
 fn enter(scope: &mut Scope, gives: bool)
-    ensures { scope.new ≡ spec.scope_of scope.old.outside scope.old.xform gives }
+    ensures { seen_scope scope.new ≡ spec.scope_of scope.old.outside scope.old.xform gives }
 {
     scope.locals.truncate(0);
     scope.told.truncate(0);

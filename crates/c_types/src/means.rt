@@ -3,7 +3,7 @@
 ghost use Rattle.std.specs.Prelude.{◌≡◌};
 ghost use Rattle.c_types.specs.Names as spec;
 
-use c_lang::Kind;
+use c_lang::{Kind, refusal};
 use sqlite_items::Items;
 
 /// What a name stands for where it is used.
@@ -12,7 +12,7 @@ pub enum Means {
     /// A global, parameter or local that holds one value.
     Cell(Kind),
     /// A global array.
-    Row,
+    Array,
     /// A function.
     Code {
         params: Items<Kind>,
@@ -42,5 +42,9 @@ pub fn smaller(a: Option<u8>, b: Option<u8>) -> Option<u8>
 pub fn fits(place: Kind, kind: Kind) -> Option<u8>
     ensures { result ≡ spec.fits place kind }
 {
-    if place.same_as(kind) { None } else { Some(10) }
+    if place.same_as(kind) {
+        None
+    } else {
+        Some(refusal::WRONG_KIND)
+    }
 }

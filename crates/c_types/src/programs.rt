@@ -9,7 +9,7 @@ use crate::functions::{check_func, is_main};
 use crate::scope::Scope;
 use crate::simple::stop;
 use crate::symbols::Symbols;
-use c_lang::{Fail, Func, Kind, Name, Pos, Program, Refusal, Unit, cell_limit};
+use c_lang::{Fail, Func, Kind, Name, Pos, Program, Refusal, Unit, cell_limit, refusal};
 use sqlite_items::Items;
 use std::alloc::{AllocError, Global};
 
@@ -62,7 +62,11 @@ fn has_main(funcs: &[Func]) -> bool
 fn wrong_main(funcs: &[Func]) -> Option<u8>
     ensures { result ≡ spec.wrong_main funcs.now }
 {
-    if has_main(funcs) { None } else { Some(13) }
+    if has_main(funcs) {
+        None
+    } else {
+        Some(refusal::NO_START)
+    }
 }
 
 fn check_bodies(

@@ -6,6 +6,8 @@ ghost use Rattle.std.specs.Option.{option_copied};
 ghost use Rattle.c_lang.specs.Trees as tree;
 ghost use Rattle.c_lang.specs.Trees.{expression_of};
 ghost use Rattle.c_lang.specs.declared.stmt.Kind.TheVariants.{Int};
+ghost use Rattle.c_types.specs.Code.SeenScopes.{seen_scope};
+ghost use Rattle.c_types.specs.Code.SeenMeans.{seen_name};
 ghost use Rattle.c_types.specs.Names.{meant};
 ghost use Rattle.c_types.specs.Scopes.{names_of};
 ghost use Rattle.c_types.specs.Expressions as spec;
@@ -18,7 +20,7 @@ use sqlite_items::Boxed;
 use std::alloc::{AllocError, Global};
 
 fn resolve_name(alloc: Global, name: &Name, means: Option<&Means>) -> Result<Expr, AllocError>
-    ensures { IfOk result (λ expr. expr ≡ spec.resolved_name name.now (meant (option_copied means.entry))) }
+    ensures { IfOk result (λ expr. expr ≡ spec.resolved_name name.now (meant (seen_name (option_copied means.entry)))) }
 {
     let name = name.copy(alloc)?;
     match means {
@@ -39,7 +41,7 @@ fn resolve_literal(place: Kind, number: i32) -> Expr
 /// The resolved form of an expression at its place.
 #[cycle(resolve)]
 pub fn resolve(alloc: Global, scope: &Scope, place: Kind, e: &Expr) -> Result<Expr, AllocError>
-    ensures { IfOk result (λ expr. expr ≡ spec.resolved (names_of scope.now) place (expression_of e.now)) }
+    ensures { IfOk result (λ expr. expr ≡ spec.resolved (names_of (seen_scope scope.now)) place (expression_of e.now)) }
 {
     match e {
         Expr::Lit(z) => Ok(resolve_literal(place, *z)),
@@ -60,7 +62,7 @@ pub fn resolve(alloc: Global, scope: &Scope, place: Kind, e: &Expr) -> Result<Ex
 
 #[cycle(resolve)]
 fn resolve_element(alloc: Global, scope: &Scope, a: &Name, i: &Expr) -> Result<Expr, AllocError>
-    ensures { IfOk result (λ expr. expr ≡ spec.resolved (names_of scope.now) Int (tree.element a.now (expression_of i.now))) }
+    ensures { IfOk result (λ expr. expr ≡ spec.resolved (names_of (seen_scope scope.now)) Int (tree.element a.now (expression_of i.now))) }
 {
     let a = a.copy(alloc)?;
     let i = boxed(alloc, scope, Kind::Int, i)?;
@@ -70,7 +72,7 @@ fn resolve_element(alloc: Global, scope: &Scope, a: &Name, i: &Expr) -> Result<E
 /// The same in a box, where other work comes before its use.
 #[cycle(resolve)]
 pub fn boxed(alloc: Global, scope: &Scope, place: Kind, e: &Expr) -> Result<Boxed<Expr>, AllocError>
-    ensures { IfOk result (λ expr. expr ≡ spec.resolved (names_of scope.now) place (expression_of e.now)) }
+    ensures { IfOk result (λ expr. expr ≡ spec.resolved (names_of (seen_scope scope.now)) place (expression_of e.now)) }
 {
     Boxed::new(alloc, resolve(alloc, scope, place, e)?)
 }

@@ -2,12 +2,14 @@
 
 ghost use Rattle.std.specs.Prelude.{◌≡◌, OnOk, IfOk};
 ghost use Rattle.std.specs.Option.{option_copied};
+ghost use Rattle.c_types.specs.Code.SeenScopes.{seen_scope, seen_block};
+ghost use Rattle.c_types.specs.Code.SeenMeans.{seen_name};
 ghost use Rattle.c_types.specs.Names.{meant};
 ghost use Rattle.c_types.specs.Scopes as spec;
 
 use crate::means::{Means, smaller};
 use crate::symbols::Symbols;
-use c_lang::{Dest, Kind, Name};
+use c_lang::{Dest, Kind, Name, PARAMETER_LIMIT, refusal};
 use std::alloc::{AllocError, Global};
 
 /// The names that a statement of a function sees, and the rules that it is under.
@@ -38,7 +40,7 @@ pub struct Block {
 impl Scope {
     /// What the name stands for.
     pub fn look(&self, name: &Name) -> Option<&Means>
-        ensures { option_copied result ≡ spec.in_scope self.now name.now }
+        ensures { seen_name (option_copied result) ≡ spec.in_scope (seen_scope self.now) name.now }
     {
         match self.outside.find(name) {
             Some(means) => Some(means),
@@ -53,15 +55,25 @@ pub fn wrong_kind(kind: Kind) -> Option<u8>
 {
     match kind {
         Kind::Int => None,
-        Kind::Fp(n) => { if n > 32 { Some(27) } else { None } }
+        Kind::Fp(n) => {
+            if n > PARAMETER_LIMIT {
+                Some(refusal::PAST_LIMIT)
+            } else {
+                None
+            }
+        }
     }
 }
 
 /// 19 in a transformer, which only computes.
 pub fn wrong_effect(scope: &Scope) -> Option<u8>
-    ensures { result ≡ spec.wrong_effect scope.now }
+    ensures { result ≡ spec.wrong_effect (seen_scope scope.now) }
 {
-    if scope.xform { Some(19) } else { None }
+    if scope.xform {
+        Some(refusal::TRANSFORMER_EFFECT)
+    } else {
+        None
+    }
 }
 
 /// Whether the name begins as those of one version alone do in a transformer: with `dsu_old_` or
@@ -75,47 +87,48 @@ pub fn names_version(name: &Name) -> bool
 }
 
 fn is_another(told: Option<&Means>, kind: Kind) -> bool
-    ensures { result ≡ spec.is_another (option_copied told.entry) kind }
+    ensures { result ≡ spec.is_another (seen_name (option_copied told.entry)) kind }
 {
     match told {
         Some(Means::Cell(before)) => !before.same_as(kind),
-        Some(Means::Row) | Some(Means::Code { .. }) | Some(Means::Refused(_)) | None => false,
+        Some(Means::Array) | Some(Means::Code { .. }) | Some(Means::Refused(_)) | None => false,
     }
 }
 
 /// The number that refuses a name that is declared in the block.
+#[tactic(auto, using(crate::proofs::SymbolLaws::is_some_seen))]
 pub fn wrong_fresh(scope: &Scope, block: Block, kind: Kind, name: &Name) -> Option<u8>
-    ensures { result ≡ spec.wrong_fresh block scope.now kind name.now }
+    ensures { result ≡ spec.wrong_fresh (seen_block block) (seen_scope scope.now) kind name.now }
 {
     if scope.locals.stands_from(block.base, name) {
-        Some(7)
+        Some(refusal::DUPLICATE)
     } else if is_another(scope.told.find(name), kind) {
-        Some(7)
+        Some(refusal::DUPLICATE)
     } else if scope.look(name).is_some() {
-        Some(8)
+        Some(refusal::SHADOWED)
     } else if scope.ahead.stands_before(block.mark, name) {
-        Some(8)
+        Some(refusal::SHADOWED)
     } else if scope.xform && names_version(name) {
-        Some(8)
+        Some(refusal::SHADOWED)
     } else {
         None
     }
 }
 
 fn wrong_target(means: Option<&Means>) -> Option<u8>
-    ensures { result ≡ spec.wrong_target (meant (option_copied means.entry)) }
+    ensures { result ≡ spec.wrong_target (meant (seen_name (option_copied means.entry))) }
 {
     match means {
         Some(Means::Cell(_)) => None,
         Some(Means::Refused(n)) => Some(*n),
-        None => Some(9),
-        _ => Some(10),
+        None => Some(refusal::UNKNOWN),
+        _ => Some(refusal::WRONG_KIND),
     }
 }
 
 /// The number that refuses a destination.
 pub fn wrong_dest(scope: &Scope, block: Block, dest: &Dest) -> Option<u8>
-    ensures { result ≡ spec.wrong_dest block scope.now dest.now }
+    ensures { result ≡ spec.wrong_dest (seen_block block) (seen_scope scope.now) dest.now }
 {
     match dest {
         Dest::Nowhere => None,
@@ -125,7 +138,7 @@ pub fn wrong_dest(scope: &Scope, block: Block, dest: &Dest) -> Option<u8>
 }
 
 fn kind_of_target(means: Option<&Means>) -> Option<Kind>
-    ensures { result ≡ spec.kind_of_target (meant (option_copied means.entry)) }
+    ensures { result ≡ spec.kind_of_target (meant (seen_name (option_copied means.entry))) }
 {
     match means {
         Some(Means::Cell(kind)) => Some(*kind),
@@ -135,7 +148,7 @@ fn kind_of_target(means: Option<&Means>) -> Option<Kind>
 
 /// The kind of what goes to this destination, where it has one.
 pub fn kind_of_dest(scope: &Scope, dest: &Dest) -> Option<Kind>
-    ensures { result ≡ spec.kind_of_dest scope.now dest.now }
+    ensures { result ≡ spec.kind_of_dest (seen_scope scope.now) dest.now }
 {
     match dest {
         Dest::Nowhere => None,
@@ -156,7 +169,7 @@ pub fn add_dest(alloc: Global, symbols: &mut Symbols, dest: &Dest) -> Result<(),
 
 /// Declares the local that the destination declares. The only error is want of memory.
 pub fn declare(alloc: Global, scope: &mut Scope, dest: &Dest) -> Result<(), AllocError>
-    ensures { OnOk result (scope.new ≡ spec.declared scope.old dest.now) }
+    ensures { OnOk result (seen_scope scope.new ≡ spec.declared (seen_scope scope.old) dest.now) }
 {
     add_dest(alloc, &mut scope.locals, dest)
 }

@@ -7,6 +7,7 @@ ghost use Rattle.c_lang.specs.Trees as tree;
 ghost use Rattle.c_lang.specs.Trees.{expression_of};
 ghost use Rattle.c_lang.specs.declared.stmt.Kind.TheVariants.{Int};
 ghost use Rattle.c_lang.specs.declared.stmt.Stmt.{Stmt};
+ghost use Rattle.c_types.specs.Code.SeenScopes.{seen_scope, seen_block};
 ghost use Rattle.c_types.specs.Calls as calls;
 ghost use Rattle.c_types.specs.Checks.{Checked, Stops, at_place};
 ghost use Rattle.c_types.specs.Expressions as expression;
@@ -21,7 +22,7 @@ use crate::expressions::wrong;
 use crate::means::smaller;
 use crate::resolving::{boxed, resolve};
 use crate::scope::{Block, Scope, copy_dest, declare, wrong_dest, wrong_effect};
-use c_lang::{Dest, Expr, Fail, Kind, Name, Pos, Refusal, Stmt};
+use c_lang::{Dest, Expr, Fail, Kind, Name, Pos, Refusal, Stmt, refusal};
 use sqlite_items::Boxed;
 use std::alloc::Global;
 
@@ -41,7 +42,7 @@ pub fn stop(number: Option<u8>, pos: Pos) -> Result<(), Fail>
 
 /// An int that is looked at by itself.
 pub fn int(alloc: Global, scope: &Scope, pos: Pos, e: &Expr) -> Result<Boxed<Expr>, Fail>
-    ensures { Checked result (at_place (expression.wrong (names_of scope.now) Int (expression_of e.now)) pos) (expression.resolved (names_of scope.now) Int (expression_of e.now)) }
+    ensures { Checked result (at_place (expression.wrong (names_of (seen_scope scope.now)) Int (expression_of e.now)) pos) (expression.resolved (names_of (seen_scope scope.now)) Int (expression_of e.now)) }
 {
     stop(wrong(scope, Kind::Int, e), pos)?;
     Ok(boxed(alloc, scope, Kind::Int, e)?)
@@ -56,8 +57,8 @@ pub fn set(
     dest: &Dest,
     value: &Expr,
 ) -> Result<Stmt, Fail>
-    ensures checked { spec.IsStatement block scope.old (tree.set pos dest.now (expression_of value.now)) result }
-    ensures scope { OnOk result (scope.new ≡ spec.scope_after scope.old (tree.set pos dest.now (expression_of value.now))) }
+    ensures checked { spec.IsStatement (seen_block block) (seen_scope scope.old) (tree.set pos dest.now (expression_of value.now)) result }
+    ensures scope { OnOk result (seen_scope scope.new ≡ spec.scope_after (seen_scope scope.old) (tree.set pos dest.now (expression_of value.now))) }
 {
     let place = place_in(scope, dest, value);
     let number = smaller(wrong_dest(scope, block, dest), wrong(scope, place, value));
@@ -81,7 +82,7 @@ pub fn set_element(
     index: &Expr,
     value: &Expr,
 ) -> Result<Stmt, Fail>
-    ensures { spec.IsStatement (spec.block_in scope.now) scope.now (tree.set_element pos array.now (expression_of index.now) (expression_of value.now)) result }
+    ensures { spec.IsStatement (spec.block_in (seen_scope scope.now)) (seen_scope scope.now) (tree.set_element pos array.now (expression_of index.now) (expression_of value.now)) result }
 {
     stop(wrong_element(scope, array, index, value), pos)?;
     let kind = element_kind(scope, scope.look(array), value);
@@ -106,8 +107,8 @@ pub fn call(
     callee: &Name,
     args: &[Expr],
 ) -> Result<Stmt, Fail>
-    ensures checked { spec.IsStatement block scope.old (tree.call pos dest.now callee.now (map expression_of args.now)) result }
-    ensures scope { OnOk result (scope.new ≡ spec.scope_after scope.old (tree.call pos dest.now callee.now (map expression_of args.now))) }
+    ensures checked { spec.IsStatement (seen_block block) (seen_scope scope.old) (tree.call pos dest.now callee.now (map expression_of args.now)) result }
+    ensures scope { OnOk result (seen_scope scope.new ≡ spec.scope_after (seen_scope scope.old) (tree.call pos dest.now callee.now (map expression_of args.now))) }
 {
     let inside = wrong_call(scope, scope.look(callee), dest, args);
     stop(smaller(wrong_dest(scope, block, dest), inside), pos)?;
@@ -126,8 +127,8 @@ pub fn call_by(
     pointer: &Name,
     args: &[Expr],
 ) -> Result<Stmt, Fail>
-    ensures checked { spec.IsStatement block scope.old (tree.call_by pos dest.now pointer.now (map expression_of args.now)) result }
-    ensures scope { OnOk result (scope.new ≡ spec.scope_after scope.old (tree.call_by pos dest.now pointer.now (map expression_of args.now))) }
+    ensures checked { spec.IsStatement (seen_block block) (seen_scope scope.old) (tree.call_by pos dest.now pointer.now (map expression_of args.now)) result }
+    ensures scope { OnOk result (seen_scope scope.new ≡ spec.scope_after (seen_scope scope.old) (tree.call_by pos dest.now pointer.now (map expression_of args.now))) }
 {
     let inside = wrong_call_by(scope, scope.look(pointer), dest, args);
     stop(smaller(wrong_dest(scope, block, dest), inside), pos)?;
@@ -144,7 +145,7 @@ pub fn call_by(
 }
 
 fn wrong_answer(scope: &Scope, block: Block, dest: &Dest) -> Option<u8>
-    ensures { result ≡ spec.wrong_answer block scope.now dest.now }
+    ensures { result ≡ spec.wrong_answer (seen_block block) (seen_scope scope.now) dest.now }
 {
     let inside = smaller(wrong_effect(scope), wrong_use(scope, true, dest));
     smaller(wrong_dest(scope, block, dest), inside)
@@ -158,8 +159,8 @@ fn answer(
     pos: Pos,
     dest: &Dest,
 ) -> Result<Dest, Fail>
-    ensures checked { Checked result (at_place (spec.wrong_answer block scope.old dest.now) pos) dest.now }
-    ensures scope { OnOk result (scope.new ≡ declared scope.old dest.now) }
+    ensures checked { Checked result (at_place (spec.wrong_answer (seen_block block) (seen_scope scope.old) dest.now) pos) dest.now }
+    ensures scope { OnOk result (seen_scope scope.new ≡ declared (seen_scope scope.old) dest.now) }
 {
     stop(wrong_answer(scope, block, dest), pos)?;
     declare(alloc, scope, dest)?;
@@ -174,8 +175,8 @@ pub fn input(
     pos: Pos,
     dest: &Dest,
 ) -> Result<Stmt, Fail>
-    ensures checked { spec.IsStatement block scope.old (tree.input pos dest.now) result }
-    ensures scope { OnOk result (scope.new ≡ spec.scope_after scope.old (tree.input pos dest.now)) }
+    ensures checked { spec.IsStatement (seen_block block) (seen_scope scope.old) (tree.input pos dest.now) result }
+    ensures scope { OnOk result (seen_scope scope.new ≡ spec.scope_after (seen_scope scope.old) (tree.input pos dest.now)) }
 {
     let dest = answer(alloc, scope, block, pos, dest)?;
     Ok(Stmt::Input { pos, dest })
@@ -190,8 +191,8 @@ pub fn choice(
     dest: &Dest,
     k: u32,
 ) -> Result<Stmt, Fail>
-    ensures checked { spec.IsStatement block scope.old (tree.choice pos dest.now k) result }
-    ensures scope { OnOk result (scope.new ≡ spec.scope_after scope.old (tree.choice pos dest.now k)) }
+    ensures checked { spec.IsStatement (seen_block block) (seen_scope scope.old) (tree.choice pos dest.now k) result }
+    ensures scope { OnOk result (seen_scope scope.new ≡ spec.scope_after (seen_scope scope.old) (tree.choice pos dest.now k)) }
 {
     let dest = answer(alloc, scope, block, pos, dest)?;
     Ok(Stmt::Choice { pos, dest, k })
@@ -199,7 +200,7 @@ pub fn choice(
 
 /// An output.
 pub fn output(alloc: Global, scope: &Scope, pos: Pos, value: &Expr) -> Result<Stmt, Fail>
-    ensures { spec.IsStatement (spec.block_in scope.now) scope.now (tree.output pos (expression_of value.now)) result }
+    ensures { spec.IsStatement (spec.block_in (seen_scope scope.now)) (seen_scope scope.now) (tree.output pos (expression_of value.now)) result }
 {
     let number = smaller(wrong_effect(scope), wrong(scope, Kind::Int, value));
     stop(number, pos)?;
@@ -209,7 +210,7 @@ pub fn output(alloc: Global, scope: &Scope, pos: Pos, value: &Expr) -> Result<St
 
 /// An assertion.
 pub fn assert_that(alloc: Global, scope: &Scope, pos: Pos, cond: &Expr) -> Result<Stmt, Fail>
-    ensures { spec.IsStatement (spec.block_in scope.now) scope.now (tree.assert_that pos (expression_of cond.now)) result }
+    ensures { spec.IsStatement (spec.block_in (seen_scope scope.now)) (seen_scope scope.now) (tree.assert_that pos (expression_of cond.now)) result }
 {
     stop(wrong(scope, Kind::Int, cond), pos)?;
     let cond = resolve(alloc, scope, Kind::Int, cond)?;
@@ -218,7 +219,7 @@ pub fn assert_that(alloc: Global, scope: &Scope, pos: Pos, cond: &Expr) -> Resul
 
 /// A point.
 pub fn point(scope: &Scope, pos: Pos, k: u32) -> Result<Stmt, Fail>
-    ensures { spec.IsStatement (spec.block_in scope.now) scope.now (tree.point pos k) result }
+    ensures { spec.IsStatement (spec.block_in (seen_scope scope.now)) (seen_scope scope.now) (tree.point pos k) result }
 {
     stop(wrong_effect(scope), pos)?;
     Ok(Stmt::Point { pos, k })
@@ -229,7 +230,7 @@ pub fn of_clients_alone(pos: Pos) -> Result<Stmt, Fail>
     ensures { (stmt : Stmt) → Checked result (at_place (Some 21) pos) stmt }
 {
     Err(Fail::Refused(Refusal {
-        number: 21,
+        number: refusal::CLIENT_CALL,
         pos,
         name: None,
     }))
@@ -242,7 +243,7 @@ pub fn return_with(
     pos: Pos,
     value: &Option<Expr>,
 ) -> Result<Stmt, Fail>
-    ensures { spec.IsStatement (spec.block_in scope.now) scope.now (tree.return_with pos (option_map expression_of value.now)) result }
+    ensures { spec.IsStatement (spec.block_in (seen_scope scope.now)) (seen_scope scope.now) (tree.return_with pos (option_map expression_of value.now)) result }
 {
     stop(wrong_return(scope, scope.gives, value), pos)?;
     let value = resolve_value(alloc, scope, value)?;

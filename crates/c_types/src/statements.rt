@@ -3,6 +3,7 @@
 
 ghost use Rattle.std.specs.Prelude.{◌≡◌, OnOk, map};
 ghost use Rattle.c_lang.specs.Trees.{statement_of};
+ghost use Rattle.c_types.specs.Code.SeenScopes.{seen_scope, seen_block};
 ghost use Rattle.c_types.specs.Bodies.{body_of};
 ghost use Rattle.c_types.specs.Checks.{Checked};
 ghost use Rattle.c_types.specs.Scopes.{with_dest};
@@ -55,8 +56,8 @@ fn add_locals(alloc: Global, symbols: &mut Symbols, stmts: &[Stmt]) -> Result<()
 /// scope.
 #[cycle(statement)]
 pub fn statement(alloc: Global, scope: &mut Scope, block: Block, s: &Stmt) -> Result<Stmt, Fail>
-    ensures checked { spec.IsStatement block scope.old (statement_of s.now) result }
-    ensures scope { OnOk result (scope.new ≡ spec.scope_after scope.old (statement_of s.now)) }
+    ensures checked { spec.IsStatement (seen_block block) (seen_scope scope.old) (statement_of s.now) result }
+    ensures scope { OnOk result (seen_scope scope.new ≡ spec.scope_after (seen_scope scope.old) (statement_of s.now)) }
 {
     match s {
         Stmt::Skip { pos } => Ok(Stmt::Skip { pos: *pos }),
@@ -118,8 +119,8 @@ fn sequence(
     block: Block,
     stmts: &[Stmt],
 ) -> Result<Items<Stmt>, Fail>
-    ensures checked { spec.IsSequence block scope.old (body_of stmts.now) result }
-    ensures scope { OnOk result (scope.new ≡ spec.scope_after_all scope.old (body_of stmts.now)) }
+    ensures checked { spec.IsSequence (seen_block block) (seen_scope scope.old) (body_of stmts.now) result }
+    ensures scope { OnOk result (seen_scope scope.new ≡ spec.scope_after_all (seen_scope scope.old) (body_of stmts.now)) }
 {
     let mut all = Items::new(alloc);
     for s in stmts {
@@ -132,8 +133,8 @@ fn sequence(
 /// block's locals leave the scope at its end.
 #[cycle(statement)]
 pub fn body(alloc: Global, scope: &mut Scope, stmts: &[Stmt]) -> Result<Items<Stmt>, Fail>
-    ensures checked { spec.IsBody scope.old (body_of stmts.now) result }
-    ensures scope { OnOk result (scope.new ≡ spec.after_block scope.old (body_of stmts.now)) }
+    ensures checked { spec.IsBody (seen_scope scope.old) (body_of stmts.now) result }
+    ensures scope { OnOk result (seen_scope scope.new ≡ spec.after_block (seen_scope scope.old) (body_of stmts.now)) }
 {
     let block = Block {
         base: scope.locals.len(),

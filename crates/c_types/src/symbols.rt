@@ -2,6 +2,7 @@
 
 ghost use Rattle.std.specs.Prelude.{◌≡◌, OnOk, OnErr, take, length, []};
 ghost use Rattle.std.specs.Option.{option_copied};
+ghost use Rattle.c_types.specs.Code.SeenMeans.{seen_means, seen_name};
 ghost use Rattle.c_types.specs.Names as spec;
 
 use crate::means::Means;
@@ -13,16 +14,17 @@ use std::marker::Model;
 /// Names with what they stand for, in the order of their declarations.
 #[derive(Drop)]
 pub struct Symbols {
-    map: IndexMap<Name, Means>,
+    table: IndexMap<Name, Means>,
 }
 
 impl Model for Symbols {
-    ghost use Rattle.std.specs.Prelude.{ℕ, List};
-    ghost use Rattle.c_types.specs.declared.means.Means.{Means};
+    ghost use Rattle.std.specs.Prelude.{map};
+    ghost use Rattle.c_types.specs.Names.{Entries};
+    ghost use Rattle.c_types.specs.Code.SeenMeans.{seen_entry};
 
-    ghost Value = { List (List ℕ × Means) };
+    ghost Value = { Entries };
 
-    ghost view = { λ s. s.map.entries };
+    ghost view = { λ s. map seen_entry s.table.entries };
 }
 
 impl Symbols {
@@ -31,39 +33,43 @@ impl Symbols {
         ensures { result ≡ [] }
     {
         Symbols {
-            map: IndexMap::new(alloc),
+            table: IndexMap::new(alloc),
         }
     }
 
     /// What the name stands for.
+    #[tactic(auto, using(crate::proofs::SymbolLaws::found_seen))]
     pub fn find(&self, name: &Name) -> Option<&Means>
-        ensures { option_copied result ≡ spec.found self.now name.now }
+        ensures { seen_name (option_copied result) ≡ spec.found self.now name.now }
     {
-        self.map.get(name)
+        self.table.get(name)
     }
 
     /// How many names there are.
+    #[tactic(auto, using(crate::proofs::SymbolLaws::length_seen))]
     pub fn len(&self) -> usize
         ensures { result ≡ length self.now }
     {
-        self.map.len()
+        self.table.len()
     }
 
     /// Whether the name stands at this place, or behind it.
+    #[tactic(auto, using(crate::proofs::SymbolLaws::keys_seen))]
     pub fn stands_from(&self, base: usize, name: &Name) -> bool
         ensures { result ≡ spec.stands_from base self.now name.now }
     {
-        match self.map.get_index_of(name) {
+        match self.table.get_index_of(name) {
             Some(place) => base <= place,
             None => false,
         }
     }
 
     /// Whether the name stands before this place.
+    #[tactic(auto, using(crate::proofs::SymbolLaws::keys_seen))]
     pub fn stands_before(&self, mark: usize, name: &Name) -> bool
         ensures { result ≡ spec.stands_before mark self.now name.now }
     {
-        match self.map.get_index_of(name) {
+        match self.table.get_index_of(name) {
             Some(place) => place < mark,
             None => false,
         }
@@ -72,22 +78,23 @@ impl Symbols {
     /// Adds a name, unless it is there already. The only error is want of memory, and then the table is
     /// as it was.
     pub fn add(&mut self, name: Name, means: Means) -> Result<(), AllocError>
-        ensures added { OnOk result (self.new ≡ spec.added self.old name means) }
+        ensures added { OnOk result (self.new ≡ spec.added self.old name (seen_means means)) }
         ensures as_before { OnErr result (self.new ≡ self.old) }
     {
-        if self.map.contains_key(&name) {
+        if self.table.contains_key(&name) {
             return Ok(());
         }
-        match self.map.insert(name, means) {
+        match self.table.insert(name, means) {
             Ok(_) => Ok(()),
             Err(_) => Err(AllocError),
         }
     }
 
     /// Takes away the names from this place on.
+    #[tactic(auto, using(crate::proofs::SymbolLaws::take_seen))]
     pub fn truncate(&mut self, base: usize)
         ensures { self.new ≡ take base self.old }
     {
-        self.map.truncate(base);
+        self.table.truncate(base);
     }
 }

@@ -5,45 +5,28 @@ use Rattle.std.proofs.lemmas.Slice.Eq.{bytes_eq-Decides}
 use Rattle.c_lang.specs.Names.{Bytes}
 use Rattle.c_lang.specs.Values.{Value, Num, Code, Null}
 use Rattle.plain_run.specs.Steps as steps
-use Rattle.plain_run.specs.Steps.{updated, local_or, Locals, Item, Does, Mark, Frame, Config, Live, Over, after_mark}
+use Rattle.plain_run.specs.Steps.{updated, local_or, Locals}
 use Rattle.c_lang.specs.Programs.{func_in}
 use Rattle.plain_run.specs.PlainRun.{Store, PlainFrame, plain_access}
 use Rattle.version_names.specs.Version.{Version}
-use Rattle.version_names.specs.Home.{Home, Linked, same_home, same_linked}
+use Rattle.version_names.specs.Home.{Home, Linked}
 use Rattle.version_names.specs.Home as home
-use Rattle.version_names.specs.Provenance.{Provenance, may_update}
+use Rattle.version_names.specs.Provenance.{Provenance}
 use Rattle.version_names.specs.Provenance as origin
-use Rattle.merge_core.specs.UpdatingRun.{World, State, UpdFrame, cell_meaning, function_meaning, code_of, updating_access}
+use Rattle.merge_core.specs.UpdatingRun.{State, UpdFrame, cell_meaning, function_meaning, code_of, updating_access}
 use Rattle.c_lang.specs.declared.unit.Pos.{Pos}
 use Rattle.c_lang.specs.declared.expr.Expr.TheVariants.{Var}
 use Rattle.c_lang.specs.declared.stmt.Kind.{Kind}
 use Rattle.c_lang.specs.declared.stmt.Stmt.{Stmt}
 use Rattle.c_lang.specs.declared.stmt.Stmt.TheOpen.{Stmt-F}
 use Rattle.c_lang.specs.declared.stmt.Stmt.TheOpen as one
-use Rattle.c_lang.specs.declared.program.Program.{Program}
 use Rattle.merge_core.proofs.MergedStatements.{now_name, wrapper_body}
 use Rattle.merge_core.proofs.EvaluationRenamed.{renamed_value, ev-Var}
-use Rattle.merge_core.proofs.Relation.{Naming, Merging, is_there}
+use Rattle.merge_core.proofs.Relation.{Merging, is_there}
 use Rattle.merge_core.proofs.FrameLemmas.{IsMerged}
 
 module _ (M : Merging) where
-  abbrev W : World
-  W = M.world
-
-  abbrev ρ : Provenance → Bytes → Bytes
-  ρ = M.variable_name
-
-  abbrev κ : Provenance → Bytes → Bytes
-  κ = M.function_name
-
-  abbrev κ' : Linked → Bytes
-  κ' = M.value_name
-
-  abbrev names : Naming W ρ κ κ'
-  names = M.naming
-
-  abbrev P : Program
-  P = M.program
+  open M use {world as W, value_name as κ', program as P}
 
   abbrev value' : Value Linked → Value Bytes
   value' = renamed_value κ'

@@ -6,15 +6,15 @@ use Rattle.c_lang.specs.Names.{Bytes}
 use Rattle.c_lang.specs.Values.{Value, Num}
 use Rattle.plain_run.specs.Moves.{Move, Goes}
 use Rattle.plain_run.specs.Steps as steps
-use Rattle.plain_run.specs.Steps.{updated, local_or, Locals, Item, Does, Mark, Frame, Config, Live, Over, after_mark}
+use Rattle.plain_run.specs.Steps.{updated, Item, Does, Mark, Live, Over, after_mark}
 use Rattle.c_lang.specs.Programs.{func_in}
 use Rattle.plain_run.specs.PlainRun.{Store, PlainFrame, PlainConfig, plain_access, dropped, step}
-use Rattle.version_names.specs.Version.{Version, is_old}
+use Rattle.version_names.specs.Version.{Version}
 use Rattle.version_names.specs.Version as version
 use Rattle.version_names.specs.Home.{Linked}
-use Rattle.version_names.specs.Provenance.{Provenance, may_update}
+use Rattle.version_names.specs.Provenance.{Provenance}
 use Rattle.version_names.specs.Provenance as origin
-use Rattle.merge_core.specs.UpdatingRun.{World, State, UpdFrame, UpdConfig, cell_meaning, updating_access}
+use Rattle.merge_core.specs.UpdatingRun.{State, UpdFrame, UpdConfig, cell_meaning, updating_access}
 use Rattle.plain_run.proofs.Simulation.{Comes, goes_once, then_leads, silently}
 use Rattle.c_lang.specs.declared.event.Event.TheVariants as event
 use Rattle.c_lang.specs.declared.expr.Expr.TheVariants.{Var}
@@ -23,30 +23,13 @@ use Rattle.c_lang.specs.declared.stmt.Dest.{Dest}
 use Rattle.c_lang.specs.declared.stmt.Stmt.{Stmt, out-Stmt, roll-Stmt, fold_out-Stmt, map-Stmt, out-roll-Stmt}
 use Rattle.c_lang.specs.declared.stmt.Stmt.TheVariants as stmt
 use Rattle.c_lang.specs.declared.program.Func.{Func}
-use Rattle.c_lang.specs.declared.program.Program.{Program}
 use Rattle.merge_core.proofs.MergedStatements.{now_name, result_name, transform_name, hand_on, merged_layer, merged_stmt, merged_item}
 use Rattle.merge_core.proofs.EvaluationRenamed.{renamed_value, number-renamed, ev-Var}
-use Rattle.merge_core.proofs.Relation.{Naming, Merging, is_there, transform_function, SameState, SameFrame, Hands, Below, R, Follows}
+use Rattle.merge_core.proofs.Relation.{Merging, is_there, transform_function, SameState, SameFrame, Hands, Below, R, Follows}
 use Rattle.merge_core.proofs.StateLemmas.{same_stored}
 
 module _ (M : Merging) where
-  abbrev W : World
-  W = M.world
-
-  abbrev ρ : Provenance → Bytes → Bytes
-  ρ = M.variable_name
-
-  abbrev κ : Provenance → Bytes → Bytes
-  κ = M.function_name
-
-  abbrev κ' : Linked → Bytes
-  κ' = M.value_name
-
-  abbrev names : Naming W ρ κ κ'
-  names = M.naming
-
-  abbrev P : Program
-  P = M.program
+  open M use {world as W, variable_name as ρ, function_name as κ, value_name as κ', naming as names, program as P}
 
   abbrev value' : Value Linked → Value Bytes
   value' = renamed_value κ'

@@ -4,5 +4,4 @@ pub mod Visible
 pub mod Transformers
 pub mod Refusals
 pub mod Kept
-pub mod Covered
 pub mod Code

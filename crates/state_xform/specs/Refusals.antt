@@ -1,6 +1,7 @@
 -- The first refusal of a transformer: globals, prototypes, functions in source order, then what the unit as a
 -- whole must have.
 use Rattle.std.specs.Prelude.{ℕ, Bool, true, false, not, ◌&&◌, ◌||◌, if◌then◌else◌, List, [], ◌∷◌, Option, Some, None, is_some}
+use Rattle.c_lang.specs.Refusals as refused
 use Rattle.c_lang.specs.Names.{Bytes}
 use Rattle.c_lang.specs.Programs.{func_named}
 use Rattle.c_lang.specs.Trees.{Statements}
@@ -32,7 +33,7 @@ use Rattle.state_xform.specs.Visible.{Parts, visible}
 abbrev pub refusal_of_first : List Refusal → Entries → List GlobalVar → Option Refusal
 refusal_of_first early outside [] = None
 refusal_of_first early outside (g ∷ gs) =
-    at_place (smaller (Some 19) (wrong_global early outside [] (cell_limit unit.Xform) g)) g.pos
+    at_place (smaller (Some refused.transformer_effect) (wrong_global early outside [] (cell_limit unit.Xform) g)) g.pos
 
 -- ---- functions
 
@@ -43,7 +44,7 @@ in_version parts x =
 
 -- 7 where the name isn't the transformer's own
 abbrev pub wrong_own_name : Parts → Entries → Bytes → Option ℕ
-wrong_own_name parts seen x = if is_some (found seen x) || in_version parts x || names_version x then Some 7 else None
+wrong_own_name parts seen x = if is_some (found seen x) || in_version parts x || names_version x then Some refused.duplicate else None
 
 abbrev pub refusal_of_own : Parts → Entries → Entries → List Func → Option Refusal
 refusal_of_own parts outside seen [] = None
@@ -65,7 +66,7 @@ abbrev pub is_changed : Parts → Bytes → Bool
 is_changed parts x = is_old (parts version.Old sort.Cell x) && is_new (parts version.New sort.Cell x)
 
 abbrev pub not_covered : Pos → Bytes → Refusal
-not_covered p x = record { number = 18; pos = p; name = Some x }
+not_covered p x = record { number = refused.not_covered; pos = p; name = Some x }
 
 abbrev pub is_uncovered : Parts → List Func → Statements → GlobalVar → Bool
 is_uncovered parts fs body g = is_changed parts g.name && not (is_covered fs body (merged_name origin.New g.name) g.shape)
@@ -80,7 +81,7 @@ refusal_of_coverage parts fs start (g ∷ gs) =
 
 -- 13 where there is no `void dsu_transform(void)`
 abbrev pub no_start : Refusal
-no_start = record { number = 13; pos = first_line unit.Xform; name = None }
+no_start = record { number = refused.no_start; pos = first_line unit.Xform; name = None }
 
 -- `start` is the function `dsu_transform`
 abbrev pub refusal_of_started : Parts → Program → Program → Func → Option Refusal

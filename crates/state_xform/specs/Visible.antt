@@ -1,13 +1,12 @@
 -- What the functions of a transformer see: what its unit declares, then what the two versions declare.
 -- Of several declarations of one name the first counts.
 use Rattle.std.specs.Prelude.{List, [], ◌∷◌, Option, Some, None}
+use Rattle.c_lang.specs.Refusals as refused
 use Rattle.c_lang.specs.Names.{Bytes}
 use Rattle.c_lang.specs.declared.program.GlobalVar.{GlobalVar}
 use Rattle.c_lang.specs.declared.program.Func.{Func}
 use Rattle.c_lang.specs.declared.program.Program.{Program}
-use Rattle.c_types.specs.declared.means.Means.{Means}
-use Rattle.c_types.specs.declared.means.Means.TheVariants.{Code, Refused}
-use Rattle.c_types.specs.Names.{Entries, added}
+use Rattle.c_types.specs.Names.{Means, Code, Refused, Entries, added}
 use Rattle.c_types.specs.Functions.{kinds_of, arity_as_value}
 use Rattle.c_types.specs.Programs.{means_of_shape, with_globals}
 use Rattle.version_names.specs.Merged.{merged_name}
@@ -45,11 +44,11 @@ with_own_funcs entries (f ∷ fs) = with_own_funcs (added entries f.name (own_fu
 
 -- the name of a version's function is a value as it is there, and 19 refuses a call
 abbrev pub version_func : Func → Means
-version_func f = Code (kinds_of f.params) f.gives (arity_as_value (kinds_of f.params) f.gives) (Some 19)
+version_func f = Code (kinds_of f.params) f.gives (arity_as_value (kinds_of f.params) f.gives) (Some refused.transformer_effect)
 
 -- what one version alone has is seen behind a prefix, and its own name is unknown
 abbrev pub with_prefixed : Origin → Entries → Bytes → Means → Entries
-with_prefixed o entries x m = added (added entries (merged_name o x) m) x (Refused 9)
+with_prefixed o entries x m = added (added entries (merged_name o x) m) x (Refused refused.unknown)
 
 -- what both versions have is seen by its own name
 abbrev pub with_part : Option Part → Entries → Bytes → Means → Entries

@@ -5,7 +5,7 @@ ghost use Rattle.c_lang.specs.Trees.{Statements};
 ghost use Rattle.c_lang.specs.declared.program.Func.{Func};
 ghost use Rattle.c_types.specs.Bodies.{body_of};
 ghost use Rattle.c_types.specs.Checks.{Checked};
-ghost use Rattle.state_xform.specs.Covered.{AreCovered};
+ghost use Rattle.state_xform.specs.Code.Covered.{AreCovered};
 ghost use Rattle.state_xform.specs.Refusals as spec;
 ghost use Rattle.state_xform.specs.Transformers as transformer;
 ghost use Rattle.state_xform.specs.Visible.{parts_in};
@@ -15,7 +15,7 @@ ghost use Rattle.version_names.specs.declared.part.Origin.TheVariants.{New};
 use crate::always::always_set_names;
 use crate::elements::element_names;
 use crate::names::NameSet;
-use c_lang::{Fail, Func, GlobalVar, Name, Refusal, Shape, Stmt};
+use c_lang::{Fail, Func, GlobalVar, Name, Refusal, Shape, Stmt, refusal};
 use std::alloc::{AllocError, Global};
 use version_names::{Links, Origin, Part, Sort2, Version, merged_name};
 
@@ -96,7 +96,7 @@ fn not_covered(alloc: Global, start: &Func, g: &GlobalVar) -> Result<Refusal, Al
 {
     let name = g.name.copy(alloc)?;
     Ok(Refusal {
-        number: 18,
+        number: refusal::NOT_COVERED,
         pos: start.pos,
         name: Some(name),
     })

@@ -6,7 +6,7 @@ ghost use Rattle.c_types.specs.Programs.{resolved_funcs};
 ghost use Rattle.state_xform.specs.Refusals as spec;
 ghost use Rattle.state_xform.specs.Visible.{parts_in};
 
-use c_lang::{Fail, Func, Name};
+use c_lang::{Fail, Func, Name, refusal};
 use c_types::declarations::add_func;
 use c_types::functions::check_func;
 use c_types::scope::names_version;
@@ -24,11 +24,12 @@ fn in_version(links: &Links, name: &Name) -> bool
         || links.of(Version::New, Sort2::Code, name).is_some()
 }
 
+#[tactic(auto, using(c_types::proofs::SymbolLaws::is_some_seen))]
 fn wrong_own_name(links: &Links, seen: &Symbols, name: &Name) -> Option<u8>
     ensures { result ≡ spec.wrong_own_name (parts_in links.now) seen.now name.now }
 {
     if seen.find(name).is_some() || in_version(links, name) || names_version(name) {
-        Some(7)
+        Some(refusal::DUPLICATE)
     } else {
         None
     }

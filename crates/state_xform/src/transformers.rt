@@ -14,7 +14,7 @@ ghost use Rattle.state_xform.specs.Visible as seen;
 use crate::covering::check_coverage;
 use crate::functions::check_funcs;
 use crate::visible::visible;
-use c_lang::{Fail, Func, GlobalVar, Name, Pos, Program, Refusal, Unit, cell_limit};
+use c_lang::{Fail, Func, GlobalVar, Name, Pos, Program, Refusal, Unit, cell_limit, refusal};
 use c_types::Symbols;
 use c_types::declarations::{check_globals, check_protos};
 use c_types::means::smaller;
@@ -56,7 +56,7 @@ fn check_no_global(
         [] => Ok(()),
         [g, _others @ ..] => {
             let number = wrong_alone(alloc, early, outside, g)?;
-            stop(smaller(Some(19), number), g.pos)
+            stop(smaller(Some(refusal::TRANSFORMER_EFFECT), number), g.pos)
         }
     }
 }
@@ -104,7 +104,7 @@ fn no_start() -> Result<(), Fail>
         unit: Unit::Xform,
         line: 1,
     };
-    stop(Some(13), line)
+    stop(Some(refusal::NO_START), line)
 }
 
 fn check_started(

@@ -1,9 +1,10 @@
 //! What the functions of a transformer see.
 
 ghost use Rattle.std.specs.Prelude.{◌≡◌, IfOk, OnOk};
+ghost use Rattle.c_types.specs.Code.SeenMeans.{seen_means};
 ghost use Rattle.state_xform.specs.Visible as spec;
 
-use c_lang::{Func, GlobalVar, Name, Program};
+use c_lang::{Func, GlobalVar, Name, Program, refusal};
 use c_types::declarations::{means_of_shape, outside_of};
 use c_types::functions::{arity_as_value, kinds_of};
 use c_types::{Means, Symbols};
@@ -12,7 +13,7 @@ use version_names::{Links, Origin, Part, Sort2, Version, merged_name};
 
 // An own function may be called, and its name is no value.
 fn own_func(alloc: Global, f: &Func) -> Result<Means, AllocError>
-    ensures { IfOk result (λ means. means ≡ spec.own_func f.now) }
+    ensures { IfOk result (λ means. seen_means means ≡ spec.own_func f.now) }
 {
     Ok(Means::Code {
         params: kinds_of(alloc, f.params.as_slice())?,
@@ -24,7 +25,7 @@ fn own_func(alloc: Global, f: &Func) -> Result<Means, AllocError>
 
 // The name of a version's function is a value as it is there, and 19 refuses a call.
 fn version_func(alloc: Global, f: &Func) -> Result<Means, AllocError>
-    ensures { IfOk result (λ means. means ≡ spec.version_func f.now) }
+    ensures { IfOk result (λ means. seen_means means ≡ spec.version_func f.now) }
 {
     let params = kinds_of(alloc, f.params.as_slice())?;
     let value = arity_as_value(params.as_slice(), f.gives);
@@ -32,7 +33,7 @@ fn version_func(alloc: Global, f: &Func) -> Result<Means, AllocError>
         params,
         gives: f.gives,
         value,
-        denied: Some(19),
+        denied: Some(refusal::TRANSFORMER_EFFECT),
     })
 }
 
@@ -53,10 +54,10 @@ fn add_prefixed(
     name: &Name,
     means: Means,
 ) -> Result<(), AllocError>
-    ensures { OnOk result (symbols.new ≡ spec.with_prefixed origin symbols.old name.now means) }
+    ensures { OnOk result (symbols.new ≡ spec.with_prefixed origin symbols.old name.now (seen_means means)) }
 {
     symbols.add(merged_name(alloc, origin, name)?, means)?;
-    symbols.add(name.copy(alloc)?, Means::Refused(9))
+    symbols.add(name.copy(alloc)?, Means::Refused(refusal::UNKNOWN))
 }
 
 fn add_part(
@@ -66,7 +67,7 @@ fn add_part(
     name: &Name,
     means: Means,
 ) -> Result<(), AllocError>
-    ensures { OnOk result (symbols.new ≡ spec.with_part part symbols.old name.now means) }
+    ensures { OnOk result (symbols.new ≡ spec.with_part part symbols.old name.now (seen_means means)) }
 {
     match part {
         Some(Part::Both) => symbols.add(name.copy(alloc)?, means),

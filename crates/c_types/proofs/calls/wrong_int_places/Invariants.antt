@@ -1,5 +1,6 @@
 use Rattle.std.proofs.Common.{◌≡◌, drop, map}
 use Rattle.c_lang.specs.Trees.{expression_of}
+use Rattle.c_types.specs.Code.SeenScopes.{seen_scope}
 use Rattle.c_types.specs.Names.{smaller}
 use Rattle.c_types.specs.Scopes.{names_of}
 use Rattle.c_types.specs.Calls as spec
@@ -7,5 +8,5 @@ use Rattle.c_types.proofs.calls.wrong_int_places.Given as goal
 
 abbrev pub invariant-loop-e : goal.invariant-loop-e
 invariant-loop-e l =
-    smaller l.number (spec.wrong_places (names_of l.scope) (spec.ints l.left) (map expression_of (drop l.e-index l.args)))
-    ≡ spec.wrong_places (names_of l.scope) (spec.ints l.count) (map expression_of l.args)
+    smaller l.number (spec.wrong_places (names_of (seen_scope l.scope)) (spec.ints l.left) (map expression_of (drop l.e-index l.args)))
+    ≡ spec.wrong_places (names_of (seen_scope l.scope)) (spec.ints l.count) (map expression_of l.args)

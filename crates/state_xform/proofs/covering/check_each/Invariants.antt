@@ -3,7 +3,7 @@ use Rattle.c_lang.specs.declared.program.Func.{Func}
 use Rattle.state_xform.specs.Refusals.{refusal_of_coverage}
 use Rattle.state_xform.specs.Visible.{parts_in}
 use Rattle.c_types.specs.Bodies.{body_of}
-use Rattle.state_xform.specs.Covered.{AreCovered}
+use Rattle.state_xform.specs.Code.Covered.{AreCovered}
 use Rattle.state_xform.proofs.covering.check_each.Given as goal
 
 -- what is refused of the rest is what is refused of all

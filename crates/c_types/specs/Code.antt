@@ -1,0 +1,3 @@
+-- Definitions that mirror the code.
+pub mod SeenMeans
+pub mod SeenScopes

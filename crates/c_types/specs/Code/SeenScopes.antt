@@ -1,0 +1,10 @@
+-- What the code's scopes and blocks stand for.
+use Rattle.c_types.specs.Scopes.{Scope, Block}
+use Rattle.c_types.specs.declared.scope.Scope as code
+use Rattle.c_types.specs.declared.scope.Block as blocks
+
+abbrev pub seen_scope : code.Scope → Scope
+seen_scope s = record { outside = s.outside; locals = s.locals; told = s.told; ahead = s.ahead; gives = s.gives; xform = s.xform }
+
+abbrev pub seen_block : blocks.Block → Block
+seen_block b = record { base = b.base; mark = b.mark }
