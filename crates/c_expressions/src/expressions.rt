@@ -46,7 +46,7 @@ fn next_operator(tokens: &[Token]) -> Option<(Op, &[Token])>
 /// An expression, its height, and what follows it.
 #[derive(Drop)]
 pub struct Found<'a> {
-    pub expr: Expr,
+    pub expr: Boxed<Expr>,
     pub height: u32,
     pub rest: &'a [Token],
 }
@@ -63,13 +63,10 @@ fn join<'a>(
     ensures height { IfOk result (λ x. x.height ≡ max left.entry.height right.entry.height + 1) }
     ensures rest { IfOk result (λ x. x.rest.now ≡ right.entry.rest.now) }
 {
+    let height = left.height.max(right.height) + 1;
     Ok(Found {
-        expr: Expr::Bin(
-            op,
-            Boxed::new(alloc, left.expr)?,
-            Boxed::new(alloc, right.expr)?,
-        ),
-        height: left.height.max(right.height) + 1,
+        expr: Boxed::new(alloc, Expr::Bin(op, left.expr, right.expr))?,
+        height,
         rest: right.rest,
     })
 }
@@ -81,7 +78,7 @@ fn negation(alloc: Global, found: Found<'_>) -> Result<Found<'_>, ParseError>
     ensures rest { IfOk result (λ x. length x.rest.now ≤ length found.entry.rest.now) }
 {
     Ok(Found {
-        expr: Expr::Neg(Boxed::new(alloc, found.expr)?),
+        expr: Boxed::new(alloc, Expr::Neg(found.expr))?,
         height: found.height + 1,
         rest: found.rest,
     })
@@ -94,7 +91,7 @@ fn logical_not(alloc: Global, found: Found<'_>) -> Result<Found<'_>, ParseError>
     ensures rest { IfOk result (λ x. length x.rest.now ≤ length found.entry.rest.now) }
 {
     Ok(Found {
-        expr: Expr::Not(Boxed::new(alloc, found.expr)?),
+        expr: Boxed::new(alloc, Expr::Not(found.expr))?,
         height: found.height + 1,
         rest: found.rest,
     })
@@ -113,30 +110,38 @@ fn in_brackets(found: Found<'_>) -> Result<Found<'_>, ParseError>
     })
 }
 
-fn element(alloc: Global, name: Name, found: Found<'_>) -> Result<Found<'_>, ParseError>
+fn element<'a>(alloc: Global, name: &Name, found: Found<'a>) -> Result<Found<'a>, ParseError>
     requires { found.height + 1 < 2 ^ 32 }
-    ensures read { Gives seen result (spec.closed 5 (spec.raise (Expr.Elem name) (seen found.entry))) }
+    ensures read { Gives seen result (spec.closed 5 (spec.raise (Expr.Elem name.now) (seen found.entry))) }
     ensures height { IfOk result (λ x. x.height ≡ found.entry.height + 1) }
     ensures rest { IfOk result (λ x. length x.rest.now ≤ length found.entry.rest.now) }
 {
     let rest = after(punctuator::SQUARE_CLOSE, found.rest)?;
     Ok(Found {
-        expr: Expr::Elem(name, Boxed::new(alloc, found.expr)?),
+        expr: Boxed::new(alloc, Expr::Elem(name.copy(alloc)?, found.expr))?,
         height: found.height + 1,
         rest,
     })
 }
 
-fn leaf(expr: Expr, rest: &[Token]) -> Found<'_>
-    ensures read { seen result ≡ record { expr = expr; height = 1; rest = rest.now } }
-    ensures height { result.height ≡ 1 }
-    ensures rest { result.rest.now ≡ rest.now }
+fn leaf(alloc: Global, expr: Expr, rest: &[Token]) -> Result<Found<'_>, ParseError>
+    ensures read { Gives seen result (Some (record { expr = expr; height = 1; rest = rest.now })) }
+    ensures height { IfOk result (λ x. x.height ≡ 1) }
+    ensures rest { IfOk result (λ x. x.rest.now ≡ rest.now) }
 {
-    Found {
-        expr,
+    Ok(Found {
+        expr: Boxed::new(alloc, expr)?,
         height: 1,
         rest,
-    }
+    })
+}
+
+fn variable<'a>(alloc: Global, name: &Name, rest: &'a [Token]) -> Result<Found<'a>, ParseError>
+    ensures read { Gives seen result (Some (record { expr = Expr.Var name.now; height = 1; rest = rest.now })) }
+    ensures height { IfOk result (λ x. x.height ≡ 1) }
+    ensures rest { IfOk result (λ x. x.rest.now ≡ rest.now) }
+{
+    leaf(alloc, Expr::Var(name.copy(alloc)?), rest)
 }
 
 #[cycle(expression)]
@@ -151,14 +156,11 @@ fn operand(alloc: Global, below: u32, tokens: &[Token]) -> Result<Found<'_>, Par
         return Err(ParseError::Syntax(0));
     };
     match &first.what {
-        Word::Number(n) => Ok(leaf(Expr::Lit(*n), rest)),
-        Word::Ident(name) => {
-            let name = name.copy(alloc)?;
-            match skip(punctuator::SQUARE_OPEN, rest) {
-                Some(inside) => element(alloc, name, expression(alloc, below, 1, inside)?),
-                None => Ok(leaf(Expr::Var(name), rest)),
-            }
-        }
+        Word::Number(n) => leaf(alloc, Expr::Lit(*n), rest),
+        Word::Ident(name) => match skip(punctuator::SQUARE_OPEN, rest) {
+            Some(inside) => element(alloc, name, expression(alloc, below, 1, inside)?),
+            None => variable(alloc, name, rest),
+        },
         Word::Punct(punctuator::ROUND_OPEN) => in_brackets(expression(alloc, below, 1, rest)?),
         Word::Punct(punctuator::MINUS) => negation(alloc, expression(alloc, below, 7, rest)?),
         Word::Punct(punctuator::BANG) => logical_not(alloc, expression(alloc, below, 7, rest)?),

@@ -1,7 +1,7 @@
 //! What stands on the right of an assignment, without its tokens.
 
 use c_lang::{Expr, Name};
-use sqlite_items::Items;
+use sqlite_items::{Boxed, Items};
 
 /// A call: of a function by its name, with arguments; `client_in()`; or `dsu_choice` of a number.
 #[derive(Debug, Drop)]
@@ -14,6 +14,6 @@ pub enum Call {
 /// An expression, or a call.
 #[derive(Debug, Drop)]
 pub enum Right {
-    Value(Expr),
+    Value(Boxed<Expr>),
     Call(Call),
 }

@@ -80,18 +80,3 @@ impl Name {
         Name::new(alloc, self.as_bytes())
     }
 }
-
-#[cfg(test)]
-mod tests {
-    use super::*;
-    use std::test::Fail;
-
-    #[test]
-    fn names_are_copied(rt: HostRuntime) -> Result<(), Fail> {
-        let name = Name::new(rt.alloc(), b"counter")?;
-        let copy = name.copy(rt.alloc())?;
-        assert_eq!(rt; copy.as_bytes(), b"counter".as_slice());
-        assert!(rt; copy == name);
-        Ok(())
-    }
-}

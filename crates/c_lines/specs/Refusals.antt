@@ -1,6 +1,8 @@
 -- What the reader of the first form answers where it gives no program.
-use Rattle.std.specs.Prelude.{⊤, ◌≡◌, None}
+use Rattle.std.specs.Prelude.{⊤, ◌≡◌}
 use Rattle.c_lang.specs.Names.{Bytes}
+use Rattle.c_lang.specs.Refusals.{refused_at, no_first_form}
+use Rattle.c_lang.specs.Units.{at}
 use Rattle.c_lines.specs.Lines.{Lines}
 use Rattle.c_lang.specs.declared.unit.Unit.{Unit}
 use Rattle.c_lang.specs.declared.program.Program.{Program}
@@ -11,5 +13,5 @@ use Rattle.c_lang.specs.declared.refusal.Fail.TheVariants as fail
 abbrev pub IsRefusedForm : Fail → Unit → Bytes → Type 0
 IsRefusedForm fail.NoMemory unit bytes = ⊤
 IsRefusedForm (fail.Refused refusal) unit bytes =
-    (refusal ≡ record { number = 29; pos = record { unit = unit; line = 1 }; name = None })
+    (refusal ≡ refused_at no_first_form (at unit 1))
     × ((program : Program) → Lines unit bytes program → ⊥)

@@ -9,8 +9,6 @@ mod laws;
 mod params;
 mod parser;
 mod parts;
-#[cfg(test)]
-mod tests;
 mod units;
 
 pub use laws::{one_program, one_program_of_text, parsed_is_written};

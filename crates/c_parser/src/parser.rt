@@ -1,12 +1,14 @@
 //! The parser's public call.
 
-ghost use Rattle.std.specs.Prelude.{◌≡◌, ◌≤◌, ◌<◌, ℕ, List, length, MatchResult};
+ghost use Rattle.std.specs.Prelude.{◌≡◌, ◌≤◌, ◌<◌, ℕ, List, All, length, IfOk, MatchResult};
+ghost use Rattle.c_lang.specs.Limits.{height_limit};
 ghost use Rattle.c_lang.specs.declared.unit.Unit.{Unit};
 ghost use Rattle.c_lang.specs.declared.program.Program.{Program};
 ghost use Rattle.c_lang.specs.declared.refusal.Fail.TheVariants as Fail;
 ghost use Rattle.c_grammar.specs.declared.token.Token.{Token};
 ghost use Rattle.c_grammar.specs.Grammar.{Gram};
 ghost use Rattle.c_grammar.specs.Parsed.{IsParsed, IsPlace, IsRefusedAs};
+ghost use Rattle.c_grammar.specs.Written.{IsGiven, IsWritten};
 
 use crate::brackets::too_deep;
 use crate::units::unit_at;
@@ -34,6 +36,8 @@ fn place(unit: Unit, left: usize, tokens: &[Token]) -> Pos
 /// parser stops: the last one at the end of the text, line 1 of the unit where there is none.
 pub fn parse(alloc: Global, unit: Unit, deep: u32, tokens: &[Token]) -> Result<Program, Fail>
     ensures answer { MatchResult result (λ program. IsParsed unit deep tokens.now program) (λ fail. IsRefusedAs fail unit deep tokens.now) }
+    // A program of tokens that texts of the unit have is written in the unit, unless it may be too high for it.
+    ensures written { deep ≤ height_limit unit → All (IsGiven unit) tokens.now → IfOk result (IsWritten unit) }
     // Unless memory runs out, tokens that are a program are accepted, and as this program.
     ensures only { (program : Program) → IsParsed unit deep tokens.now program
         → MatchResult result (λ answer. answer ≡ program) (λ fail. fail ≡ Fail.NoMemory) }

@@ -13,17 +13,17 @@ use c_expressions::parse_error::ParseError;
 use c_lang::{Dest, Name, Pos, Stmt, Unit};
 use c_lexer::{Token, Word, keyword, punctuator};
 use sqlite_items::Boxed;
-use std::alloc::Global;
+use std::alloc::{AllocError, Global};
 
 /// One call of a pick, as a statement.
 #[derive(Drop)]
 pub struct One<'a> {
-    pub stmt: Stmt,
+    pub stmt: Boxed<Stmt>,
     pub height: u32,
     pub rest: &'a [Token],
 }
 
-fn end_one(pos: Pos, dest: Dest, called: Called<'_>) -> Result<One<'_>, ParseError>
+fn end_one(alloc: Global, pos: Pos, dest: Dest, called: Called<'_>) -> Result<One<'_>, ParseError>
     requires { called.height + 1 < 2 ^ 32 }
     ensures read { Gives seen_one result (spec.end_one pos dest (Some (seen_called called.entry))) }
     ensures height { IfOk result (λ x. x.height ≡ called.entry.height + 1) }
@@ -31,7 +31,7 @@ fn end_one(pos: Pos, dest: Dest, called: Called<'_>) -> Result<One<'_>, ParseErr
 {
     let rest = after(punctuator::SEMICOLON, called.rest)?;
     Ok(One {
-        stmt: call_to(pos, dest, called.call),
+        stmt: Boxed::new(alloc, call_to(pos, dest, called.call))?,
         height: called.height + 1,
         rest,
     })
@@ -67,6 +67,7 @@ fn one_at(alloc: Global, below: u32, tokens: &[Token]) -> Result<One<'_>, ParseE
     };
     match skip(punctuator::EQUALS, rest) {
         None => end_one(
+            alloc,
             first.pos,
             Dest::Nowhere,
             call_behind(alloc, below, name, rest)?,
@@ -75,7 +76,12 @@ fn one_at(alloc: Global, below: u32, tokens: &[Token]) -> Result<One<'_>, ParseE
             None => Err(ParseError::Syntax(given.len())),
             Some((callee, args)) => {
                 let dest = Dest::Into(name.copy(alloc)?);
-                end_one(first.pos, dest, call_behind(alloc, below, callee, args)?)
+                end_one(
+                    alloc,
+                    first.pos,
+                    dest,
+                    call_behind(alloc, below, callee, args)?,
+                )
             }
         },
     }
@@ -110,6 +116,53 @@ pub fn updated_at(tokens: &[Token]) -> Option<&[Token]>
     skip_key(keyword::DSU_UPDATED, skip(punctuator::ROUND_OPEN, tokens)?)
 }
 
+fn picked<'a>(
+    alloc: Global,
+    pos: Pos,
+    scope: Scope,
+    later: One<'_>,
+    earlier: One<'a>,
+) -> Result<Parsed<'a>, AllocError>
+    requires later { later.height + 1 < 2 ^ 32 }
+    requires earlier { earlier.height + 1 < 2 ^ 32 }
+    ensures read { IfOk result (λ x. seen_read x ≡ spec.picked pos (seen_scope scope) (seen_one later.entry) (seen_one earlier.entry)) }
+    ensures count { IfOk result (λ x. x.scope.count ≡ scope.count) }
+{
+    let height = later.height.max(earlier.height) + 1;
+    Ok(Parsed {
+        stmts: only(
+            alloc,
+            Stmt::Pick {
+                pos,
+                after: later.stmt,
+                before: earlier.stmt,
+            },
+        )?,
+        height,
+        is_open: false,
+        scope,
+        rest: earlier.rest,
+    })
+}
+
+/// `below` bounds the height of a call alone.
+fn pick_sides(
+    alloc: Global,
+    below: u32,
+    pos: Pos,
+    scope: Scope,
+    tokens: &[Token],
+) -> Result<Parsed<'_>, ParseError>
+    requires { below + 2 < 2 ^ 32 }
+    ensures read { Gives seen_read result (spec.pick_sides below pos (seen_scope scope) tokens.now) }
+    ensures within { IfOk result (λ x. IsWithin (below + 2) scope tokens.now x) }
+{
+    let later = side_of_pick(alloc, below, tokens)?;
+    let other = after_key(keyword::ELSE, later.rest)?;
+    let earlier = side_of_pick(alloc, below, other)?;
+    Ok(picked(alloc, pos, scope, later, earlier)?)
+}
+
 /// A pick, behind `if (dsu_updated`.
 #[tactic(auto, unfolding(crate::specs::Code::StatementReading::pick_at))]
 pub fn pick_at(
@@ -130,17 +183,5 @@ pub fn pick_at(
     let opened = after(punctuator::ROUND_OPEN, tokens)?;
     let closed = after(punctuator::ROUND_CLOSE, opened)?;
     let inside = after(punctuator::ROUND_CLOSE, closed)?;
-    let later = side_of_pick(alloc, below - 1, inside)?;
-    let other = after_key(keyword::ELSE, later.rest)?;
-    let earlier = side_of_pick(alloc, below - 1, other)?;
-    let height = later.height.max(earlier.height) + 1;
-    let after = Boxed::new(alloc, later.stmt)?;
-    let before = Boxed::new(alloc, earlier.stmt)?;
-    Ok(Parsed {
-        stmts: only(alloc, Stmt::Pick { pos, after, before })?,
-        height,
-        is_open: false,
-        scope,
-        rest: earlier.rest,
-    })
+    pick_sides(alloc, below - 1, pos, scope, inside)
 }

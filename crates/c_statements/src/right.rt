@@ -12,7 +12,7 @@ use c_expressions::parse_error::ParseError;
 use c_grammar::{Call, Right};
 use c_lang::{Expr, Name, Unit};
 use c_lexer::{Token, Word, keyword, punctuator};
-use sqlite_items::Items;
+use sqlite_items::{Boxed, Items};
 use std::alloc::Global;
 
 /// Arguments, and the height of the highest part of their call, whose name has height 1.
@@ -48,7 +48,7 @@ fn argument<'a>(
 {
     let found = expression(alloc, below, 1, tokens)?;
     let mut exprs = args.exprs;
-    exprs.push(found.expr)?;
+    exprs.push(found.expr.into_inner())?;
     let height = args.height.max(found.height);
     Ok((Args { exprs, height }, found.rest))
 }

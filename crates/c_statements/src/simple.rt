@@ -2,6 +2,7 @@
 
 ghost use Rattle.std.specs.Prelude.{[], ◌∷◌, ◌≡◌, ◌≤◌, ◌<◌, ◌+◌, ◌^◌, length, IfOk, Some};
 ghost use Rattle.c_expressions.specs.Code.ParseSteps.{Gives};
+ghost use Rattle.c_grammar.specs.Scopes as scopes;
 ghost use Rattle.c_grammar.specs.Statements as grammar;
 ghost use Rattle.c_statements.specs.Code.StatementReading as spec;
 ghost use Rattle.c_expressions.specs.Code.Seen.{seen};
@@ -18,7 +19,7 @@ use c_expressions::parse_error::ParseError;
 use c_grammar::{Call, Right};
 use c_lang::{Dest, Expr, Kind, Name, Pos, Stmt, Unit};
 use c_lexer::{Token, Word, punctuator};
-use sqlite_items::Items;
+use sqlite_items::{Boxed, Items};
 use std::alloc::{AllocError, Global};
 
 /// The statements that were read, and whether they end in an `if` without `else`.
@@ -80,7 +81,11 @@ fn right_to(pos: Pos, dest: Dest, right: Right) -> Stmt
     ensures { result ≡ grammar.right_to pos dest right }
 {
     match right {
-        Right::Value(value) => Stmt::Set { pos, dest, value },
+        Right::Value(value) => Stmt::Set {
+            pos,
+            dest,
+            value: value.into_inner(),
+        },
         Right::Call(call) => call_to(pos, dest, call),
     }
 }
@@ -89,7 +94,7 @@ fn right_to(pos: Pos, dest: Dest, right: Right) -> Stmt
 #[derive(Drop)]
 struct Stored {
     before: Items<Stmt>,
-    value: Expr,
+    value: Boxed<Expr>,
     scope: Scope,
 }
 
@@ -108,7 +113,7 @@ fn store(alloc: Global, pos: Pos, scope: Scope, right: Right) -> Result<Stored, 
         }),
         Right::Call(call) => {
             let name = temporary(alloc, scope.count + 1)?;
-            let value = Expr::Var(name.copy(alloc)?);
+            let value = Boxed::new(alloc, Expr::Var(name.copy(alloc)?))?;
             let before = only(alloc, call_to(pos, Dest::Fresh(Kind::Int, name), call))?;
             Ok(Stored {
                 before,
@@ -140,7 +145,7 @@ fn set(
     stmts.push(Stmt::Set {
         pos,
         dest: Dest::Into(name),
-        value: stored.value,
+        value: stored.value.into_inner(),
     })?;
     Ok((stmts, stored.scope))
 }
@@ -149,7 +154,7 @@ fn set_element(
     alloc: Global,
     pos: Pos,
     array: Name,
-    index: Expr,
+    index: Boxed<Expr>,
     scope: Scope,
     right: Right,
 ) -> Result<(Items<Stmt>, Scope), AllocError>
@@ -163,8 +168,8 @@ fn set_element(
     stmts.push(Stmt::SetElem {
         pos,
         array,
-        index,
-        value: stored.value,
+        index: index.into_inner(),
+        value: stored.value.into_inner(),
     })?;
     Ok((stmts, stored.scope))
 }
@@ -184,7 +189,7 @@ fn returned(
     let mut stmts = stored.before;
     stmts.push(Stmt::Return {
         pos,
-        value: Some(stored.value),
+        value: Some(stored.value.into_inner()),
     })?;
     Ok((stmts, stored.scope))
 }
@@ -285,6 +290,24 @@ pub fn named<'a>(
     }
 }
 
+/// The statement that declares this name, and the scope behind it.
+fn declared(
+    alloc: Global,
+    pos: Pos,
+    kind: Kind,
+    name: &Name,
+    scope: Scope,
+    right: Right,
+) -> Result<(Items<Stmt>, Scope), AllocError>
+    ensures stmts { IfOk result (λ x. x.0 ≡ grammar.right_to pos (Dest.Fresh kind name.now) right ∷ []) }
+    ensures scope { IfOk result (λ x. seen_scope x.1 ≡ scopes.declare (seen_scope scope) name.now) }
+    ensures count { IfOk result (λ x. x.1.count ≡ scope.count) }
+{
+    let scope = declare(scope, name.copy(alloc)?)?;
+    let dest = Dest::Fresh(kind, name.copy(alloc)?);
+    Ok((only(alloc, right_to(pos, dest, right))?, scope))
+}
+
 #[tactic(auto, unfolding(crate::specs::Code::StatementReading::declare_int))]
 fn declare_int<'a>(
     alloc: Global,
@@ -302,9 +325,7 @@ fn declare_int<'a>(
     let given = after(punctuator::EQUALS, tokens)?;
     let side = right_side(alloc, unit, below, given)?;
     let height = side.height + 1;
-    let dest = Dest::Fresh(Kind::Int, name.copy(alloc)?);
-    let stmts = only(alloc, right_to(pos, dest, side.right))?;
-    let scope = declare(scope, name.copy(alloc)?)?;
+    let (stmts, scope) = declared(alloc, pos, Kind::Int, name, scope, side.right)?;
     done(stmts, height, scope, side.rest)
 }
 
@@ -322,13 +343,12 @@ fn declare_pointer<'a>(
     ensures within { IfOk result (λ x. IsWithin (below + 1) scope tokens.now x) }
 {
     let pointer = pointer_at(tokens)?;
+    let scope = refuse_arity(scope, pos, pointer.arity)?;
     let given = after(punctuator::EQUALS, pointer.rest)?;
     let side = right_side(alloc, unit, below, given)?;
     let height = side.height + 1;
-    let dest = Dest::Fresh(Kind::Fp(pointer.arity), pointer.name.copy(alloc)?);
-    let stmts = only(alloc, right_to(pos, dest, side.right))?;
-    let scope = declare(scope, pointer.name.copy(alloc)?)?;
-    let scope = refuse_arity(scope, pos, pointer.arity)?;
+    let kind = Kind::Fp(pointer.arity);
+    let (stmts, scope) = declared(alloc, pos, kind, pointer.name, scope, side.right)?;
     done(stmts, height, scope, side.rest)
 }
 
@@ -416,7 +436,7 @@ pub fn assert_at(
         alloc,
         Stmt::Assert {
             pos,
-            cond: found.expr,
+            cond: found.expr.into_inner(),
         },
     )?;
     done(stmts, height, scope, found.rest)
@@ -440,7 +460,7 @@ pub fn output_at(
         alloc,
         Stmt::Output {
             pos,
-            value: found.expr,
+            value: found.expr.into_inner(),
         },
     )?;
     done(stmts, height, scope, found.rest)

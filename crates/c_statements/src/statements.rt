@@ -50,7 +50,7 @@ fn if_only<'a>(
             alloc,
             Stmt::If {
                 pos,
-                cond: cond.expr,
+                cond: cond.expr.into_inner(),
                 yes: yes.stmts,
                 no: Items::new(alloc),
             },
@@ -81,7 +81,7 @@ fn if_else<'a>(
             alloc,
             Stmt::If {
                 pos,
-                cond: cond.expr,
+                cond: cond.expr.into_inner(),
                 yes: yes.stmts,
                 no: no.stmts,
             },
@@ -110,7 +110,7 @@ fn while_loop<'a>(
             alloc,
             Stmt::While {
                 pos,
-                cond: cond.expr,
+                cond: cond.expr.into_inner(),
                 body: body.stmts,
             },
         )?,

@@ -5,8 +5,6 @@
 mod answer;
 mod distances;
 mod row;
-#[cfg(test)]
-mod tests;
 mod walk;
 
 pub use answer::{DiffLeaf, cycle_refutes, refute_diff};

@@ -16,8 +16,6 @@ mod mix;
 mod pair;
 mod point;
 mod stage;
-#[cfg(test)]
-mod tests;
 
 pub use answer::{are_given, far_sizes, refute, refuted_rows};
 pub use entry::Entry;

@@ -6,8 +6,6 @@ mod laws;
 mod number;
 mod row;
 mod sum;
-#[cfg(test)]
-mod tests;
 
 pub use laws::{combination_refutes, sum_has_coefficients, sum_is_in_form, sum_is_true};
 pub use row::{Row, RowFail};

@@ -1,6 +1,7 @@
 -- Programs whose printed text is read back as the same program.
 use Rattle.std.specs.Prelude.{◌≡◌, ◌≤◌, List, []}
 use Rattle.c_lang.specs.declared.unit.Unit.TheVariants.{Merge}
+use Rattle.c_lang.specs.Limits.{height_limit}
 use Rattle.c_lang.specs.declared.program.Program.{Program}
 use Rattle.c_grammar.specs.Lexed.{Lexed}
 use Rattle.c_grammar.specs.declared.token.Token.{Token}
@@ -16,5 +17,5 @@ pub record IsPrintable (P : Program) : Type 0 where
   pub accepted : P.early ≡ []
   pub written : IsWritten Merge P
   pub positions : ProgramHasPositions P
-  pub low : funcs_height P.funcs ≤ 72
-  pub nested : (tokens : List Token) → Lexed Merge (program_text P) tokens → IsNested 72 tokens
+  pub low : funcs_height P.funcs ≤ height_limit Merge
+  pub nested : (tokens : List Token) → Lexed Merge (program_text P) tokens → IsNested (height_limit Merge) tokens

@@ -5,8 +5,6 @@ mod declarations;
 mod expressions;
 mod program;
 mod statements;
-#[cfg(test)]
-mod tests;
 mod text;
 mod typed;
 

@@ -3,6 +3,7 @@
 ghost use Rattle.std.specs.Prelude.{◌≡◌, ◌++◌, ◌+◌, ◌<◌, IfOk, OnOk, codes, length};
 ghost use Rattle.std.specs.List.{flat_map};
 ghost use Rattle.c_lang.specs.declared.unit.Unit.TheVariants.{Merge};
+ghost use Rattle.c_lang.specs.Limits.{height_limit};
 ghost use Rattle.c_grammar.specs.Written.{Parses};
 ghost use Rattle.merge_printer.specs.Plain.{plain};
 ghost use Rattle.merge_printer.specs.Printable.{IsPrintable};
@@ -40,7 +41,7 @@ pub fn program_text(alloc: Global, program: &Program) -> Result<Vec<u8>, AllocEr
 pub fn print_program(alloc: Global, program: &Program) -> Result<Vec<u8>, AllocError>
     requires { IsPrintable (plain program.now) }
     ensures text { IfOk result (λ text. text.items ≡ spec.program_text program.now) }
-    ensures parses { IfOk result (λ text. Parses Merge 72 text.items (plain program.now)) }
+    ensures parses { IfOk result (λ text. Parses Merge (height_limit Merge) text.items (plain program.now)) }
 {
     program_text(alloc, program)
 }

@@ -17,6 +17,3 @@ pub use mem_sink::MemSink;
 pub use out_sink::OutSink;
 pub use sink::{Failed, Sink};
 pub use vec_sink::VecSink;
-
-#[cfg(test)]
-mod tests;

@@ -1,5 +1,6 @@
 -- What a step of the machine is to a move of the definitions.
 use Rattle.std.specs.Prelude.{◌≡◌, ℕ, ◌+◌, ◌<◌, ℤ, List, [], ◌∷◌, length, Result, Ok, Err}
+use Rattle.c_lang.specs.Limits.{frame_limit}
 use Rattle.plain_run.specs.Moves.{Move, Goes, Asks, Rests}
 use Rattle.plain_run.specs.Steps.{Config, Live, Over}
 use Rattle.plain_run.specs.declared.step.Step.{Step}
@@ -13,7 +14,7 @@ frame_count Over = 0
 frame_count (Live g f fs) = length fs + 1
 
 abbrev pub IsTooDeep : {F G O : Type 0} → Move (Config F G O) → Type 0
-IsTooDeep (Goes shown next) = 10000 < frame_count next
+IsTooDeep (Goes shown next) = frame_limit < frame_count next
 IsTooDeep (Asks shown next) = ⊥
 IsTooDeep Rests = ⊥
 

@@ -1,4 +1,5 @@
 ghost use Rattle.std.specs.Prelude.{◌≡◌, ◌<◌, ◌≤◌, false, ℤ, List, map, vec_len, Ok, Err, IfOk, OnErr, IsErrOf};
+ghost use Rattle.c_lang.specs.Limits.{frame_limit};
 ghost use Rattle.plain_run.specs.PlainRun.{start};
 ghost use Rattle.plain_run.specs.Code.Actions as spec;
 ghost use Rattle.plain_run.specs.Runs.{frame_count, IsTooDeep, Makes, Makes_or_fails};
@@ -13,13 +14,12 @@ use crate::initial::{initial_rows, initial_values};
 use crate::names::{Rows, Values, store, store_element};
 use crate::step::{RunError, Step};
 use crate::value::Value;
-use c_lang::{Dest, Event, Expr, Name, Pos, Program, Stmt, Trap};
+use c_lang::{Dest, Event, Expr, FRAME_LIMIT, Name, Pos, Program, Stmt, Trap};
 use c_types::Typed;
 use std::alloc::{AllocError, Global};
 use std::mem;
 
 // The frames that a run may have.
-const MOST_FRAMES: usize = 10_000;
 
 /// A run of a program that knows no update. Contracts see its configuration as `config_of`, and the
 /// program as `program_of`.
@@ -31,7 +31,7 @@ pub struct Machine<'p> {
     top: Frame<'p>,
     below: Vec<Frame<'p>>,
     over: bool,
-    ghost shallow: { vec_len below < 10000 },
+    ghost shallow: { vec_len below < frame_limit },
 }
 
 impl<'p> Machine<'p> {
@@ -213,7 +213,7 @@ impl<'p> Machine<'p> {
             (config_of self.old) a result (config_of self.new) a }
         ensures program { program_of self.new ≡ program_of self.old }
     {
-        if self.below.len() >= MOST_FRAMES - 1 {
+        if self.below.len() >= FRAME_LIMIT - 1 {
             return Err(RunError::Deep);
         }
         let frame = frame_of(alloc, self.program.func(callee), args, Some(dest))?;
@@ -302,7 +302,7 @@ impl<'p> Machine<'p> {
     pub fn step(&mut self, alloc: Global, answers: &mut Answers) -> Result<Step, RunError>
         ensures made { IfOk result (λ shown. Makes (move_of self.old)
             (config_of self.old) answers.old shown (config_of self.new) answers.new) }
-        ensures depth { frame_count (config_of self.new) ≤ 10000 }
+        ensures depth { frame_count (config_of self.new) ≤ frame_limit }
         ensures deep { IsErrOf result RunError.Deep → IsTooDeep (move_of self.old) }
         ensures config { OnErr result (config_of self.new ≡ config_of self.old) }
         ensures answers { OnErr result (answers.new ≡ answers.old) }

@@ -2,6 +2,7 @@
 use Rattle.std.specs.Prelude.{ℕ, ◌<◌, ◌≤◌, ℤ, List}
 use Rattle.plain_run.specs.PlainRun.{PlainConfig, start, step, events}
 use Rattle.c_lang.specs.declared.program.Program.{Program}
+use Rattle.c_lang.specs.Limits.{frame_limit}
 use Rattle.plain_run.specs.Runs.{frame_count}
 use Rattle.run_replay.specs.declared.replay.Close.{Close}
 use Rattle.run_replay.specs.Closes.{IsClose}
@@ -16,8 +17,8 @@ IsPlainClose P a n close = IsClose (step P (reached_plain P a n).0) (reached_pla
 
 -- none of the first n steps makes frame 10,001
 abbrev pub StaysShallow : Program → List ℤ → ℕ → Type 0
-StaysShallow P a n = (k : ℕ) → k ≤ n → frame_count (reached_plain P a k).0 ≤ 10000
+StaysShallow P a n = (k : ℕ) → k ≤ n → frame_count (reached_plain P a k).0 ≤ frame_limit
 
 -- one of them does
 abbrev pub GetsDeep : Program → List ℤ → ℕ → Type 0
-GetsDeep P a n = (k : ℕ) × ((k ≤ n) × (10000 < frame_count (reached_plain P a k).0))
+GetsDeep P a n = (k : ℕ) × ((k ≤ n) × (frame_limit < frame_count (reached_plain P a k).0))

@@ -3,8 +3,6 @@
 
 pub mod plain;
 pub mod replay;
-#[cfg(test)]
-mod tests;
 
 pub use plain::replay_plain;
 pub use replay::{Close, Replay};

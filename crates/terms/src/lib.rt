@@ -11,8 +11,6 @@ mod names;
 mod replace;
 pub mod sequent;
 pub mod sym;
-#[cfg(test)]
-mod tests;
 pub mod valuation;
 
 pub use evaluate::holds_at;

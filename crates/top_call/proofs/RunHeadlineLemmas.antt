@@ -34,13 +34,13 @@ module _ (around : Around) (run : RunRequest) (text : Text) (hold : around.held 
     )
   ]
 
-  module _ (program : Program) (typed : IsTypedText Merge 72 text program) where
+  module _ (program : Program) (typed : IsTypedText Merge text program) where
     accepted : (read : Text) → IsHeld around.held Merge run.file read → read ≡ text
     accepted read is = read-accepted around.held Merge run.file read text is hold typed.within
 
     reply-is-done : (reply : Reply) → RunAllows around.held run reply → reply.status ≡ Done
     reply-is-done reply (read, held, runs) = elim runs [
-      | inl (refusal, refused, is) ↦ absurd (refused.none program (subst (λ (t : Text). IsTypedText Merge 72 t program) (sym (accepted read held)) typed))
+      | inl (refusal, refused, is) ↦ absurd (refused.none program (subst (λ (t : Text). IsTypedText Merge t program) (sym (accepted read held)) typed))
       | inr (lines, shown, is) ↦ ap (λ (r : Reply). r.status) is
     ]
 

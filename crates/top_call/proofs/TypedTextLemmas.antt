@@ -1,7 +1,7 @@
 -- From a text to its typed program, stage by stage.
-use Rattle.std.proofs.Common.{◌≡◌, refl, sym, ap, ◌∙◌, subst, ℕ, ◌≤◌, List, length, Result, Ok, Err}
+use Rattle.std.proofs.Common.{◌≡◌, refl, sym, ap, ◌∙◌, subst, ◌≤◌, List, length, Result, Ok, Err}
 use Rattle.std.specs.Prelude.{MatchResult}
-use Rattle.c_lang.specs.Limits.{size_limit}
+use Rattle.c_lang.specs.Limits.{height_limit, size_limit}
 use Rattle.c_lang.specs.declared.unit.Unit.{Unit}
 use Rattle.c_lang.specs.declared.refusal.Fail.{Fail}
 use Rattle.c_lang.specs.declared.refusal.Fail.TheVariants as fail
@@ -10,29 +10,30 @@ use Rattle.c_grammar.specs.declared.token.Token.{Token}
 use Rattle.c_grammar.specs.Lexed as lexed
 use Rattle.c_grammar.specs.Parsed as parsed
 use Rattle.c_lang.specs.declared.refusal.Refusal.{Refusal}
-use Rattle.c_types.specs.Types.{Types, IsChecked}
+use Rattle.c_types.specs.Kept.{TypedProgram, IsChecked}
+use Rattle.c_types.specs.Types.{Types}
 use Rattle.c_types.specs.Programs.{resolved_program}
 use Rattle.top_call.specs.Words.{Text}
 use Rattle.top_call.specs.TypedText.{IsTypedText, by_tokens, by_grammar, by_types, IsRefusedTextAs, HasProgram, IsRefused}
 
-module _ (u : Unit) (deep : ℕ) (text : Text) where
-  pub tokens-refused : (f : Fail) → lexed.IsRefusedAs f u text → IsRefusedTextAs f u deep text
+module _ (u : Unit) (text : Text) where
+  pub tokens-refused : (f : Fail) → lexed.IsRefusedAs f u text → IsRefusedTextAs f u text
   tokens-refused fail.NoMemory h = tt
   tokens-refused (fail.Refused refusal) h = by_tokens refusal h
 
   module _ (tokens : List Token) (within : length text ≤ size_limit u) (cut : lexed.Lexed u text tokens) where
-    pub grammar-refused : (f : Fail) → parsed.IsRefusedAs f u deep tokens → IsRefusedTextAs f u deep text
+    pub grammar-refused : (f : Fail) → parsed.IsRefusedAs f u (height_limit u) tokens → IsRefusedTextAs f u text
     grammar-refused fail.NoMemory h = tt
     grammar-refused (fail.Refused refusal) h = by_grammar tokens refusal within cut h
 
-    pub checked : (source : Program) (result : Result Program Fail) → parsed.IsParsed u deep tokens source → IsChecked u source result
-        → MatchResult result (λ typed. IsTypedText u deep text typed) (λ f. IsRefusedTextAs f u deep text)
+    pub checked : (source : Program) (result : Result TypedProgram Fail) → parsed.IsParsed u (height_limit u) tokens source → IsChecked u source result
+        → MatchResult result (λ typed. IsTypedText u text typed.program) (λ f. IsRefusedTextAs f u text)
     checked source (Ok typed) is h = record {
       source = source;
       within = within;
       parses = record { tokens = tokens; lexed = cut; parsed = is };
-      typed = h.0;
-      resolved = h.1;
+      typed = h.1;
+      resolved = h.2;
     }
     checked source (Err fail.NoMemory) is h = tt
     checked source (Err (fail.Refused refusal)) is h = by_types source refusal within (record { tokens = tokens; lexed = cut; parsed = is }) h.0 h.1
@@ -40,24 +41,24 @@ module _ (u : Unit) (deep : ℕ) (text : Text) where
   -- ---- what is accepted, stage by stage
 
   pub source-only : (tokens : List Token) (source : Result Program Fail)
-      → ((p : Program) → parsed.IsParsed u deep tokens p → MatchResult source (λ answer. answer ≡ p) (λ f. f ≡ fail.NoMemory))
-      → (program : Program) → (is : IsTypedText u deep text program) → tokens ≡ is.parses.tokens → MatchResult source (λ answer. answer ≡ is.source) (λ f. f ≡ fail.NoMemory)
-  source-only tokens source only program is same = only is.source (subst (λ (ts : List Token). parsed.IsParsed u deep ts is.source) (sym same) is.parses.parsed)
+      → ((p : Program) → parsed.IsParsed u (height_limit u) tokens p → MatchResult source (λ answer. answer ≡ p) (λ f. f ≡ fail.NoMemory))
+      → (program : Program) → (is : IsTypedText u text program) → tokens ≡ is.parses.tokens → MatchResult source (λ answer. answer ≡ is.source) (λ f. f ≡ fail.NoMemory)
+  source-only tokens source only program is same = only is.source (subst (λ (ts : List Token). parsed.IsParsed u (height_limit u) ts is.source) (sym same) is.parses.parsed)
 
-  pub checked-only : (source : Program) (result : Result Program Fail) → IsChecked u source result
-      → (program : Program) → (is : IsTypedText u deep text program) → source ≡ is.source → MatchResult result (λ typed. typed ≡ program) (λ f. f ≡ fail.NoMemory)
-  checked-only source (Ok typed) h program is same = h.1 ∙ ap resolved_program same ∙ sym is.resolved
+  pub checked-only : (source : Program) (result : Result TypedProgram Fail) → IsChecked u source result
+      → (program : Program) → (is : IsTypedText u text program) → source ≡ is.source → MatchResult result (λ typed. typed.program ≡ program) (λ f. f ≡ fail.NoMemory)
+  checked-only source (Ok typed) h program is same = h.2 ∙ ap resolved_program same ∙ sym is.resolved
   checked-only source (Err fail.NoMemory) h program is same = refl
   checked-only source (Err (fail.Refused refusal)) h program is same = absurd (h.0 (subst (λ (p : Program). Types u p) (sym same) is.typed))
 
 -- what the answer says of a text
-pub has-program : (u : Unit) (deep : ℕ) (text : Text) (typed : Program) → IsTypedText u deep text typed
-    → ((program : Program) → IsTypedText u deep text program → typed ≡ program) → HasProgram u deep text typed
-has-program u deep text typed is only = record { is_typed = is; only = λ other it. sym (only other it) }
+pub has-program : (u : Unit) (text : Text) (typed : Program) → IsTypedText u text typed
+    → ((program : Program) → IsTypedText u text program → typed ≡ program) → HasProgram u text typed
+has-program u text typed is only = record { is_typed = is; only = λ other it. sym (only other it) }
 
-pub is-refused : (u : Unit) (deep : ℕ) (text : Text) (f : Fail) (refusal : Refusal) → f ≡ fail.Refused refusal → IsRefusedTextAs f u deep text
-    → ((program : Program) → IsTypedText u deep text program → f ≡ fail.NoMemory) → IsRefused u deep text refusal
-is-refused u deep text f refusal is first none = record {
+pub is-refused : (u : Unit) (text : Text) (f : Fail) (refusal : Refusal) → f ≡ fail.Refused refusal → IsRefusedTextAs f u text
+    → ((program : Program) → IsTypedText u text program → f ≡ fail.NoMemory) → IsRefused u text refusal
+is-refused u text f refusal is first none = record {
   first = rw is at first;
   none = λ program typed. let never : fail.Refused refusal ≡ fail.NoMemory = sym is ∙ none program typed in cc;
 }

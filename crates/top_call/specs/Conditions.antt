@@ -1,5 +1,7 @@
 -- Conditions in their order, each with its refusal.
 use Rattle.std.specs.Prelude.{⊤, ◌≡◌, ℕ, None, Result, MatchResult, List, [], ◌∷◌, ◌⊎◌}
+use Rattle.c_lang.specs.Refusals.{refused_at}
+use Rattle.c_lang.specs.Units.{at}
 use Rattle.c_lang.specs.declared.unit.Unit.{Unit}
 use Rattle.c_lang.specs.declared.refusal.Refusal.{Refusal}
 use Rattle.c_lang.specs.declared.refusal.Fail.{Fail}
@@ -7,7 +9,7 @@ use Rattle.c_lang.specs.declared.refusal.Fail.TheVariants as fail
 
 -- a refusal at the first line of a unit
 abbrev pub refusal_at : ℕ → Unit → Refusal
-refusal_at number unit = record { number = number; pos = record { unit = unit; line = 1 }; name = None }
+refusal_at number unit = refused_at number (at unit 1)
 
 -- what an input must meet, and the refusal of one that doesn't
 pub record Condition : Type 1 where

@@ -1,6 +1,7 @@
 -- Texts of the first form, and the one number that they share.
 use Rattle.std.specs.Prelude.{◌≡◌, List, [], ◌∷◌, Option, Some, None, All}
 use Rattle.c_lang.specs.Names.{Bytes}
+use Rattle.c_lang.specs.Refusals.{no_first_form}
 use Rattle.c_lines.specs.Lines.{Lines}
 use Rattle.c_lang.specs.declared.unit.Unit.{Unit}
 use Rattle.c_lang.specs.declared.unit.Unit.TheVariants.{Old, New, Xform}
@@ -41,8 +42,8 @@ AssignsOnly name program = All (λ (function : Func). All (Assigns name) functio
 -- What the three programs must meet by the names in them.
 abbrev pub program_conditions : Program → Program → Program → List Condition
 program_conditions first second transformer =
-    record { refusal = refusal_at 29 New; Holds = number_name first ≡ number_name second }
-    ∷ record { refusal = refusal_at 29 Xform; Holds = AssignsOnly (number_name first) transformer }
+    record { refusal = refusal_at no_first_form New; Holds = number_name first ≡ number_name second }
+    ∷ record { refusal = refusal_at no_first_form Xform; Holds = AssignsOnly (number_name first) transformer }
     ∷ []
 
 -- The numbers of both versions have one name.

@@ -50,5 +50,5 @@ WritesEvents around request status =
 abbrev pub RunsWhatIsAccepted : Around → Option Request → Status → Type 0
 RunsWhatIsAccepted around request status =
     (run : RunRequest) (text : Text) (program : Program)
-    → request ≡ Some (Run run) → around.held run.file ≡ Some text → IsTypedText unit.Merge 72 text program → HadNoFault around
+    → request ≡ Some (Run run) → around.held run.file ≡ Some text → IsTypedText unit.Merge text program → HadNoFault around
     → (status ≡ Done) ⊎ ((status ≡ NoMemory) ⊎ ((status ≡ Deep) × GoesTooDeep run text))

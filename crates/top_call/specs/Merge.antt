@@ -1,6 +1,7 @@
 -- The command `merge`: what it reads, what it refuses, and what it writes.
 use Rattle.std.specs.Prelude.{◌≡◌, ◌≤◌, List, [], ◌∷◌, ◌++◌, Option, length, ◌⊎◌}
 use Rattle.c_lang.specs.Limits.{size_limit}
+use Rattle.c_lang.specs.Refusals.{no_first_form, past_limit}
 use Rattle.c_lang.specs.declared.unit.Unit.{Unit}
 use Rattle.c_lang.specs.declared.unit.Unit.TheVariants.{Old, New, Xform}
 use Rattle.c_lang.specs.declared.refusal.Refusal.{Refusal}
@@ -25,13 +26,13 @@ pub record AreHeld (held : Text → Option Text) (update : UpdateFiles) (texts :
   pub new : IsHeld held New update.new texts.new
   pub xform : IsHeld held Xform update.xform texts.xform
 
--- 27: the text is within the unit's limit
+-- the text is within the unit's limit
 abbrev pub within_limit : Unit → Text → Condition
-within_limit unit text = record { refusal = refusal_at 27 unit; Holds = length text ≤ size_limit unit }
+within_limit unit text = record { refusal = refusal_at past_limit unit; Holds = length text ≤ size_limit unit }
 
--- 29: the text has the first form
+-- the text has the first form
 abbrev pub has_form : Unit → Text → Condition
-has_form unit text = record { refusal = refusal_at 29 unit; Holds = HasForm unit text }
+has_form unit text = record { refusal = refusal_at no_first_form unit; Holds = HasForm unit text }
 
 -- what the texts must meet by their sizes, by their forms, and by the names in them
 abbrev pub size_conditions : Texts → List Condition
@@ -42,8 +43,8 @@ form_conditions texts = has_form Old texts.old ∷ has_form New texts.new ∷ ha
 
 abbrev pub name_conditions : Texts → List Condition
 name_conditions texts =
-    record { refusal = refusal_at 29 New; Holds = ShareNumber texts.old texts.new }
-    ∷ record { refusal = refusal_at 29 Xform; Holds = AssignsNumber texts.old texts.xform }
+    record { refusal = refusal_at no_first_form New; Holds = ShareNumber texts.old texts.new }
+    ∷ record { refusal = refusal_at no_first_form Xform; Holds = AssignsNumber texts.old texts.xform }
     ∷ []
 
 abbrev pub conditions : Texts → List Condition

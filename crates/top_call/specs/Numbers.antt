@@ -6,6 +6,16 @@ use Rattle.std.specs.Str.Parse.{signed_digits_value}
 use Rattle.c_lang.specs.Names.{Bytes}
 use Rattle.c_lang.specs.Values.{fits_int}
 
+-- the most answers of a list, the most steps of a run, and its steps where the words give none
+abbrev pub answer_limit : ℕ
+answer_limit = 1000000
+
+abbrev pub step_limit : ℕ
+step_limit = 10000000
+
+abbrev pub default_steps : ℕ
+default_steps = 1000000
+
 -- an `int` that is written as it would be printed: `0`, or digits without a leading zero, and `-` in
 -- front of a number below 0
 abbrev pub number_of : Bytes → Option ℤ
@@ -26,10 +36,10 @@ abbrev pub all_numbers : List Bytes → Option (List ℤ)
 all_numbers [] = Some []
 all_numbers (piece ∷ pieces) = with_number (number_of piece) (all_numbers pieces)
 
--- at most 1,000,000 of them
+-- no more of them than a list may have
 abbrev pub if_few : Option (List ℤ) → Option (List ℤ)
 if_few None = None
-if_few (Some zs) = if nat_le (length zs) 1000000 then Some zs else None
+if_few (Some zs) = if nat_le (length zs) answer_limit then Some zs else None
 
 -- `none`, or numbers with a comma between each two
 abbrev pub answers_of : Bytes → Option (List ℤ)
@@ -39,7 +49,7 @@ answers_of text = if bytes_eq text (codes "none") then Some [] else if_few (all_
 abbrev pub if_steps : Option ℤ → Option ℕ
 if_steps None = None
 if_steps (Some (negsuc n)) = None
-if_steps (Some (pos n)) = if nat_le 1 n && nat_le n 10000000 then Some n else None
+if_steps (Some (pos n)) = if nat_le 1 n && nat_le n step_limit then Some n else None
 
 abbrev pub steps_of : Bytes → Option ℕ
 steps_of text = if_steps (number_of text)

@@ -33,7 +33,7 @@ run_lines shown close = flat_map event_line shown ++ close_line close
 pub record IsRunOf (run : RunRequest) (text lines : Text) : Type 0 where
   pub program : Program
   pub close : Close
-  pub has_program : HasProgram Merge 72 text program
+  pub has_program : HasProgram Merge text program
   pub shallow : StaysShallow program run.answers run.steps
   pub closes : IsPlainClose program run.answers run.steps close
   pub are_lines : lines ≡ run_lines (events program run.answers run.steps) close
@@ -41,12 +41,12 @@ pub record IsRunOf (run : RunRequest) (text lines : Text) : Type 0 where
 -- The text is refused, or its run is shown.
 abbrev pub Runs : RunRequest → Text → Reply → Type 0
 Runs run text reply =
-    ((refusal : Refusal) × IsRefused Merge 72 text refusal × (reply ≡ refused refusal))
+    ((refusal : Refusal) × IsRefused Merge text refusal × (reply ≡ refused refusal))
     ⊎ ((lines : Text) × IsRunOf run text lines × (reply ≡ done lines))
 
 -- The text is a typed program, and a step of its run makes one frame more than 10,000.
 abbrev pub GoesTooDeep : RunRequest → Text → Type 0
-GoesTooDeep run text = (program : Program) × HasProgram Merge 72 text program × GetsDeep program run.answers run.steps
+GoesTooDeep run text = (program : Program) × HasProgram Merge text program × GetsDeep program run.answers run.steps
 
 -- what `run` may reply over the held files
 abbrev pub RunAllows : (Text → Option Text) → RunRequest → Reply → Type 0

@@ -2,7 +2,7 @@
 use Rattle.std.specs.Prelude.{ℕ, ℤ, Bool, not, ◌||◌, if◌then◌else◌, List, [], ◌∷◌, ◌++◌, Option, Some, None, nat_eq, bytes_eq, option_map, codes}
 use Rattle.std.specs.List.{list_any, list_all, starts_with}
 use Rattle.c_lang.specs.Names.{behind}
-use Rattle.top_call.specs.Numbers.{answers_of, steps_of}
+use Rattle.top_call.specs.Numbers.{answers_of, default_steps, steps_of}
 
 abbrev pub Text : Type 0
 Text = List ℕ
@@ -83,7 +83,7 @@ run_of words =
     if list_all is_run_word words
     then
     run_with (chosen file_in words) (option_value answers_of [] (chosen (behind answers_name) words))
-    (option_value steps_of 1000000 (chosen (behind steps_name) words))
+    (option_value steps_of default_steps (chosen (behind steps_name) words))
     else None
 
 -- the command, and its files and options

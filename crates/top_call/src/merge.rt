@@ -15,7 +15,7 @@ use crate::reply::{Reply, refuse};
 use crate::status::Status;
 use crate::stop::Stop;
 use crate::words::UpdateFiles;
-use c_lang::{Fail, Program, Refusal, Unit, limit_of};
+use c_lang::{Fail, Program, Refusal, Unit, limit_of, refusal};
 use c_lines::parse_lines;
 use merge_core::{merge_first, print_first};
 use outside::Files;
@@ -101,13 +101,13 @@ fn check_sizes(texts: &Texts) -> Result<(), Refusal>
     ensures { Checks (size_conditions (seen_texts texts.now)) result }
 {
     if texts.old.len() > limit_of(Unit::Old) {
-        return Err(refusal_at(27, Unit::Old));
+        return Err(refusal_at(refusal::PAST_LIMIT, Unit::Old));
     }
     if texts.new.len() > limit_of(Unit::New) {
-        return Err(refusal_at(27, Unit::New));
+        return Err(refusal_at(refusal::PAST_LIMIT, Unit::New));
     }
     if texts.xform.len() > limit_of(Unit::Xform) {
-        return Err(refusal_at(27, Unit::Xform));
+        return Err(refusal_at(refusal::PAST_LIMIT, Unit::Xform));
     }
     Ok(())
 }

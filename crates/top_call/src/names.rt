@@ -4,7 +4,7 @@ ghost use Rattle.std.specs.Prelude.{◌≡◌, ◌↔◌, IsTrue, All, option_ma
 ghost use Rattle.top_call.specs.Conditions.{Checks, refusal_at as refusal_of};
 ghost use Rattle.top_call.specs.FirstForm.{number_name, Assigns, AssignsOnly, program_conditions};
 
-use c_lang::{Dest, Func, Name, Pos, Program, Refusal, Stmt, Unit};
+use c_lang::{Dest, Func, Name, Pos, Program, Refusal, Stmt, Unit, refusal};
 
 /// Both versions have one number, and the transformer assigns to it alone.
 pub(crate) fn check_names(first: &Program, second: &Program, xform: &Program) -> Result<(), Refusal>
@@ -12,10 +12,10 @@ pub(crate) fn check_names(first: &Program, second: &Program, xform: &Program) ->
 {
     let name = find_name(first);
     if name != find_name(second) {
-        return Err(refusal_at(29, Unit::New));
+        return Err(refusal_at(refusal::NO_FIRST_FORM, Unit::New));
     }
     if !assigns_only(xform, name) {
-        return Err(refusal_at(29, Unit::Xform));
+        return Err(refusal_at(refusal::NO_FIRST_FORM, Unit::Xform));
     }
     Ok(())
 }
@@ -24,11 +24,7 @@ pub(crate) fn check_names(first: &Program, second: &Program, xform: &Program) ->
 pub(crate) fn refusal_at(number: u8, unit: Unit) -> Refusal
     ensures { result ≡ refusal_of number unit }
 {
-    Refusal {
-        number,
-        pos: Pos { unit, line: 1 },
-        name: None,
-    }
+    Refusal::at(number, Pos { unit, line: 1 })
 }
 
 // The name of a version's number.

@@ -8,7 +8,10 @@ use itoa::Buffer;
 use std::alloc::{AllocError, Global};
 
 // The most answers that a list may have.
-const MOST_ANSWERS: usize = 1_000_000;
+const ANSWER_LIMIT: usize = 1_000_000;
+
+/// The most steps of a run.
+const STEP_LIMIT: i32 = 10_000_000;
 
 /// The `int` that the text writes: `0`, or digits without a leading zero, and `-` in front of a
 /// number below 0. Any other text is no number.
@@ -55,7 +58,7 @@ pub(crate) fn answers_of(alloc: Global, text: &str) -> Result<Option<Vec<i32>>, 
         return Ok(Some(Vec::new(alloc)));
     }
     match numbers_of(alloc, text)? {
-        Some(numbers) if numbers.len() <= MOST_ANSWERS => Ok(Some(numbers)),
+        Some(numbers) if numbers.len() <= ANSWER_LIMIT => Ok(Some(numbers)),
         _ => Ok(None),
     }
 }
@@ -65,7 +68,7 @@ pub(crate) fn steps_of(text: &str) -> Option<u32>
     ensures { result ≡ spec.steps_of text.now }
 {
     match number_of(text) {
-        Some(number) if 1 <= number && number <= 10_000_000 => Some(number as u32),
+        Some(number) if 1 <= number && number <= STEP_LIMIT => Some(number as u32),
         _ => None,
     }
 }

@@ -22,9 +22,6 @@ use run_replay::{Close, Replay, replay_plain};
 use std::alloc::{AllocError, Global};
 use std::fmt::Write;
 
-// The most brackets that may be open in a merged text, and the most height that it may have.
-const DEEP: u32 = 72;
-
 /// The reply of `run` to the text of the named file. Beside a failed read and want of memory the
 /// error is `Stop::Deep`, exactly where a step makes one frame more than 10,000.
 pub(crate) fn run_reply<F: Files>(
@@ -45,7 +42,7 @@ fn reply_to_text(alloc: Global, run: &RunRequest<'_>, text: &[u8]) -> Result<Rep
     ensures reply { IfOk result (λ reply. Runs (seen_run run.now) text.now (seen_reply reply)) }
     ensures deep { IsErrOf result RunError.Deep → GoesTooDeep (seen_run run.now) text.now }
 {
-    match typed_text(alloc, Unit::Merge, DEEP, text) {
+    match typed_text(alloc, Unit::Merge, text) {
         Ok(typed) => reply_of_run(alloc, run, &typed),
         Err(Fail::Refused(refusal)) => Ok(refuse(alloc, &refusal)?),
         Err(Fail::NoMemory) => Err(RunError::NoMemory),
@@ -53,9 +50,9 @@ fn reply_to_text(alloc: Global, run: &RunRequest<'_>, text: &[u8]) -> Result<Rep
 }
 
 fn reply_of_run(alloc: Global, run: &RunRequest<'_>, typed: &Typed) -> Result<Reply, RunError>
-    ensures reply { (text : Text) → HasProgram Merge 72 text typed.now →
+    ensures reply { (text : Text) → HasProgram Merge text typed.now.program →
         IfOk result (λ reply. Runs (seen_run run.now) text (seen_reply reply)) }
-    ensures deep { (text : Text) → HasProgram Merge 72 text typed.now →
+    ensures deep { (text : Text) → HasProgram Merge text typed.now.program →
         IsErrOf result RunError.Deep → GoesTooDeep (seen_run run.now) text }
 {
     let replay = replay_plain(alloc, typed, &run.answers, run.steps)?;

@@ -104,7 +104,7 @@ fn answers_given(alloc: Global, words: &[String]) -> Result<Option<Vec<i32>>, Al
 }
 
 fn steps_given(words: &[String]) -> Option<u32>
-    ensures { result ≡ spec.option_value numbers.steps_of 1000000
+    ensures { result ≡ spec.option_value numbers.steps_of numbers.default_steps
         (spec.chosen (spec.behind spec.steps_name) (map string_bytes words.now)) }
 {
     match values_of(words, STEPS) {

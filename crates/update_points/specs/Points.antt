@@ -3,6 +3,9 @@ use Rattle.std.specs.Prelude.{⊤, ◌≡◌, ℕ, Bool, nat_eq, if◌then◌els
 use Rattle.std.specs.List.{list_any, list_all, flat_map}
 use Rattle.c_lang.specs.Trees.{Statement, Statements, if_else, while_loop, point, pick, none, more, statement_of, statements}
 use Rattle.c_lang.specs.declared.unit.Unit.TheVariants.{Old}
+use Rattle.c_lang.specs.Refusals as refusal
+use Rattle.c_lang.specs.Refusals.{refused_at}
+use Rattle.c_lang.specs.Units.{at}
 use Rattle.c_lang.specs.declared.unit.Pos.{Pos}
 use Rattle.c_lang.specs.declared.refusal.Refusal.{Refusal}
 use Rattle.c_lang.specs.declared.refusal.Fail.{Fail}
@@ -60,15 +63,12 @@ are_points ks ls = list_all (λ l. is_listed l ks) ls
 
 -- ---- refusals
 
-abbrev pub refused : ℕ → Pos → Refusal
-refused number p = record { number = number; pos = p; name = None }
-
 abbrev pub no_such_point : List ℕ → Option (List ℕ) → Option Refusal
 no_such_point ks None = None
-no_such_point ks (Some ls) = if are_points ks ls then None else Some (refused 17 (record { unit = Old; line = 1 }))
+no_such_point ks (Some ls) = if are_points ks ls then None else Some (refused_at refusal.no_such_point (at Old 1))
 
 abbrev pub refusal_by : Option Pos → Option Refusal → Option Refusal
-refusal_by (Some p) other = Some (refused 16 p)
+refusal_by (Some p) other = Some (refused_at refusal.point_twice p)
 refusal_by None other = other
 
 -- 16 at the second point of a number, then 17 where a listed number is no point

@@ -4,7 +4,5 @@
 mod gathering;
 mod numbers;
 mod points;
-#[cfg(test)]
-mod tests;
 
 pub use points::{Points, list_points};

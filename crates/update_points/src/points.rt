@@ -3,11 +3,12 @@
 ghost use Rattle.std.specs.Prelude.{◌≡◌, [], IfOk};
 ghost use Rattle.std.specs.Option.{option_copied};
 ghost use Rattle.c_lang.specs.declared.refusal.Fail.TheVariants as fail;
+ghost use Rattle.c_lang.specs.Refusals.{refused_at};
 ghost use Rattle.update_points.specs.Points as spec;
 
 use crate::gathering::{PointAt, gather};
 use crate::numbers::Numbers;
-use c_lang::{Fail, Pos, Program, Refusal, Unit};
+use c_lang::{Fail, Pos, Program, Refusal, Unit, refusal};
 use std::alloc::{AllocError, Global};
 
 /// The points that may update.
@@ -26,13 +27,9 @@ impl Points {
 }
 
 fn refused(number: u8, pos: Pos) -> Fail
-    ensures { result ≡ fail.Refused (spec.refused number pos) }
+    ensures { result ≡ fail.Refused (refused_at number pos) }
 {
-    Fail::Refused(Refusal {
-        number,
-        pos,
-        name: None,
-    })
+    Fail::Refused(Refusal::at(number, pos))
 }
 
 // The numbers of the points, or 16 at the first point whose number stands before it.
@@ -42,7 +39,7 @@ fn distinct(alloc: Global, points: &[PointAt]) -> Result<Numbers, Fail>
     let mut seen = Numbers::new(alloc);
     for point in points {
         if seen.has(point.k) {
-            return Err(refused(16, point.pos));
+            return Err(refused(refusal::POINT_TWICE, point.pos));
         }
         seen.add(point.k)?;
     }
@@ -73,7 +70,7 @@ fn permitted(alloc: Global, numbers: Numbers, listed: Option<&[u32]>) -> Result<
         Some(listed) => {
             if !are_points(&numbers, listed) {
                 return Err(refused(
-                    17,
+                    refusal::NO_SUCH_POINT,
                     Pos {
                         unit: Unit::Old,
                         line: 1,

@@ -8,8 +8,6 @@ mod merged;
 mod part;
 mod status;
 mod table;
-#[cfg(test)]
-mod tests;
 
 pub use links::{Links, link, parts_are_linked};
 pub use merged::{merged_name, names_are_apart};

@@ -235,12 +235,17 @@ side_of_pick_by d ts (Some inside) = one_at d inside >>= λ x. after brace_close
 unfoldable pub side_of_pick : ℕ → List Token → Option One
 side_of_pick d ts = side_of_pick_by d ts (after brace_open ts)
 
--- behind `if (dsu_updated`; d bounds the height of a call
+abbrev pub picked : Pos → Scope → One → One → Read
+picked p sc x y = made (s.Pick p x.stmt y.stmt ∷ []) (max x.height y.height + 1) sc y.rest
+
+-- d bounds the height of a call
+abbrev pub pick_sides : ℕ → Pos → Scope → List Token → Option Read
+pick_sides d p sc ts = side_of_pick d ts >>= λ x. after_key else_key x.rest >>= λ e. side_of_pick d e >>= λ y. Some (picked p sc x y)
+
+-- behind `if (dsu_updated`
 unfoldable pub pick_at : Unit → ℕ → Pos → Scope → List Token → Option Read
 pick_at u d p sc ts = if is_client u then (if nat_lt 2 d then
-    (after round_open ts >>= λ a. after round_close a >>= λ b. after round_close b >>= λ c.
-    side_of_pick (d - 1) c >>= λ x. after_key else_key x.rest >>= λ e. side_of_pick (d - 1) e >>= λ y.
-    Some (made (s.Pick p x.stmt y.stmt ∷ []) (max x.height y.height + 1) sc y.rest))
+    (after round_open ts >>= λ a. after round_close a >>= λ b. after round_close b >>= λ c. pick_sides (d - 1) p sc c)
     else None) else None
 
 abbrev pub updated_at : List Token → Option (List Token)

@@ -7,7 +7,7 @@ use Rattle.top_call.proofs.run.reply_of_run.Goals as goal
 
 pub returns-clause-reply : goal.returns-clause-reply
 returns-clause-reply c = λ text is.
-    let P = c.args.typed.now in
+    let P = c.args.typed.now.program in
     let n = c.args.run.now.steps in
     let close = c.in_ok-replay.replay.close in
     let answers = c.deref.ensures.value in
