@@ -14,16 +14,22 @@ import sys
 ROOT = os.path.join(os.path.dirname(os.path.abspath(__file__)), "..", "crates")
 NAME = r"[^\W\d][\w'-]*"
 USE = re.compile(r"^\s*(?:ghost\s+)?(?:pub\s+)?use\s+([\w.]+?)(?:\.\{([^}]*)\})?(?:\s+as\s+(\w+))?\s*;?\s*$")
-HEAD = re.compile(r"^\s*(?:abbrev\s+|unfoldable\s+)?(?:pub\s+)?(?:(data|record)\s+)?(" + NAME + r"|◌[^\s:]*)(?=\s.*|\s*$)")
+OPENS = re.compile(r"^(\s*)(?:abbrev |unfoldable |pub )*(?:(data|record) )?(?:(" + NAME + r"|◌\S*)\s.*:.*|(mutual))$")
+KEYWORD = re.compile(r"^\s*(abbrev|unfoldable|pub|data|record|mutual)\b")
 
 
 class Definition:
-    def __init__(self, module, name, path, line):
+    def __init__(self, module, name, path, line, indent, holds):
         self.module, self.name, self.path, self.line = module, name, path, line
+        self.indent, self.holds = indent, holds
         self.text = []
 
+    def has(self, line):
+        """Whether the line belongs to this record, data type or group, since it stands further in."""
+        return self.holds and len(line) - len(line.lstrip()) > self.indent
+
     def lines(self):
-        return sum(1 for line in self.text if line.strip() and not line.strip().startswith("--"))
+        return len(self.text)
 
 
 class Module:
@@ -47,30 +53,31 @@ def add_import(module, line):
     return True
 
 
-def read_module(path, name, modules):
-    module = Module()
-    current = None
-    defined = {}
+def read_module(path, name):
+    module, current = Module(), None
     for number, line in enumerate(open(path, encoding="utf-8"), 1):
         line = line.rstrip("\n")
-        if add_import(module, line) or re.match(r"^\s*(pub mod|mod) ", line):
-            continue
         text = line.strip()
-        if not text or text.startswith("--") or text in ("mutual", "abbrev mutual"):
+        if not text or text.startswith("--") or add_import(module, line) or text.startswith(("pub mod ", "mod ")):
             continue
-        signature = re.match(r"^\s*(?:abbrev |unfoldable )?(?:pub )?(?:(?:data|record) )?(" + NAME + r"|◌\S*◌|◌\S*)\s.*:", line)
-        starts = re.match(r"^(\s{0,2})(?:abbrev |unfoldable |pub |data |record )", line)
-        if starts and signature and not re.match(r"^\s+pub [^:]* : .*", line) or (starts and re.match(r"^\s*(abbrev|unfoldable) ", line)):
-            current = Definition(name, signature.group(1) if signature else text.split()[1], path, number)
-            defined[current.name] = current
-        elif starts and signature and "mutual" in module.__dict__:
-            pass
-        elif re.match(r"^  pub (" + NAME + r") : ", line) and current is not None and current.text and current.text[0].strip().startswith("MUTUAL"):
-            pass
-        if current is not None:
+        if text.startswith("module "):
+            current = None
+            continue
+        opens = OPENS.match(line) if KEYWORD.match(line) else None
+        if opens and not (current and current.has(line)):
+            indent, kind, own, group = opens.groups()
+            current = Definition(name, own, path, number, len(indent), kind or group)
+            if own:
+                module.own[own] = current
+        elif current and current.has(line):
+            # a constructor, or a function of a group: the whole stands for it; the fields of a record don't
+            inner = re.match(r"^\s*(?:pub )?(?:data |record )?(" + NAME + r") : ", line)
+            if inner and current.holds != "record":
+                current.name = current.name or inner.group(1)
+                module.own.setdefault(inner.group(1), current)
+        if current:
             current.text.append(line)
-    module.own = defined
-    modules[name] = module
+    return module
 
 
 def load():
@@ -82,19 +89,8 @@ def load():
                 if file.endswith(".antt") and file != "Lib.antt":
                     path = os.path.join(base, file)
                     inner = os.path.relpath(path, specs)[:-5].replace(os.sep, ".")
-                    read_module(path, f"Rattle.{crate}.specs.{inner}", modules)
-    # the functions of a group that lead to each other count as one definition
-    for module in modules.values():
-        for definition in list(module.own.values()):
-            for line in definition.text:
-                inner = re.match(r"^  (?:pub )?(?:data |record )?(" + NAME + r") : ", line)
-                if inner and inner.group(1) not in module.own and re.search(r"→|Type", line) and not definition.text[0].lstrip().startswith(("pub record", "record", "pub data", "data")):
-                    module.own[inner.group(1)] = definition
-            if definition.text and re.match(r"^\s*(pub )?data ", definition.text[0]):
-                for line in definition.text[1:]:
-                    made = re.match(r"^\s+(" + NAME + r") : ", line)
-                    if made:
-                        module.own.setdefault(made.group(1), definition)
+                    name = f"Rattle.{crate}.specs.{inner}"
+                    modules[name] = read_module(path, name)
     return modules
 
 

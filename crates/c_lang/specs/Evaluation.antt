@@ -12,7 +12,7 @@ use Rattle.c_lang.specs.declared.expr.Op.TheVariants as op
 -- what names stand for: a variable's value, an array's elements, a function
 pub record Look (F : Type 0) : Type 0 where
   pub value : Bytes → Value F
-  pub row : Bytes → List ℤ
+  pub elements : Bytes → List ℤ
   pub code : Bytes → F
 
 -- the first trap is the answer
@@ -25,8 +25,8 @@ found_element (Some z) = Ok (Num z)
 found_element None = Err Index
 
 abbrev pub element_at : {F : Type 0} → List ℤ → ℤ → Answer F
-element_at row (pos n) = found_element (slice_get row n)
-element_at row (negsuc n) = Err Index
+element_at elements (pos n) = found_element (slice_get elements n)
+element_at elements (negsuc n) = Err Index
 
 abbrev pub same_value : {F : Type 0} → (F → F → Bool) → Value F → Value F → Bool
 same_value same (Num a) (Num b) = int_eq a b
@@ -62,7 +62,7 @@ joined same o a b = and_then a (λ v. and_then b (λ w. applied same o v w))
 abbrev pub ev : {F : Type 0} → (F → F → Bool) → Look F → Expression → Answer F
 ev same look (literal z) = Ok (Num z)
 ev same look (variable x) = Ok (look.value x)
-ev same look (element a i) = and_then (ev same look i) (λ v. element_at (look.row a) (number v))
+ev same look (element a i) = and_then (ev same look i) (λ v. element_at (look.elements a) (number v))
 ev same look (function f) = Ok (Code (look.code f))
 ev same look null = Ok Null
 ev same look (negation e) = and_then (ev same look e) (λ v. negated (number v))

@@ -33,14 +33,14 @@ shape_value code (shape.Fp n None) = Null
 shape_value code (shape.Fp n (Some f)) = Code (code f)
 
 -- an array's initial elements
-abbrev pub shape_row : Shape → List ℤ
-shape_row (shape.Arr zs) = zs
-shape_row _ = []
+abbrev pub shape_elements : Shape → List ℤ
+shape_elements (shape.Arr zs) = zs
+shape_elements _ = []
 
 abbrev pub initial_value : {F : Type 0} → (Bytes → F) → Option GlobalVar → Value F
 initial_value code None = Num (pos 0)
 initial_value code (Some g) = shape_value code g.shape
 
-abbrev pub initial_row : Option GlobalVar → List ℤ
-initial_row None = []
-initial_row (Some g) = shape_row g.shape
+abbrev pub initial_elements : Option GlobalVar → List ℤ
+initial_elements None = []
+initial_elements (Some g) = shape_elements g.shape

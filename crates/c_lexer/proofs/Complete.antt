@@ -11,7 +11,7 @@ use Rattle.c_grammar.specs.Punctuators.{punctuator_number, IsLongest}
 use Rattle.c_grammar.specs.Pieces.{begins_comment, IsNumber, IsPiece, white, block_comment, line_comment, include_line, position_line, number, keyword, identifier, punctuator}
 use Rattle.c_grammar.specs.Lexed.{Cuts, ends, goes, place_behind, tokens_of}
 use Rattle.c_lexer.specs.Code.Reading as spec
-use Rattle.c_lexer.specs.Code.Reading.{closing, piece_at, Outcome, kept, with_front, reading_from}
+use Rattle.c_lexer.specs.Code.Reading.{piece_at, Outcome, kept, with_front, reading_from}
 use Rattle.c_grammar.specs.declared.token.Token.{Token}
 use Rattle.c_grammar.specs.declared.token.Word.TheVariants as w
 use Rattle.c_grammar.specs.declared.piece.Piece.{Piece}

@@ -14,7 +14,7 @@ use Rattle.c_grammar.specs.Bytes.{is_white, is_in_line, is_in_word, is_in_number
 use Rattle.c_grammar.specs.Words.{keyword_number, is_refused}
 use Rattle.c_grammar.specs.Punctuators.{punctuator_number, IsLongest}
 use Rattle.c_grammar.specs.Pieces as text
-use Rattle.c_grammar.specs.Pieces.{has_close, begins_comment, IsNumber, IsInclude, SetsPosition, IsPiece, IsFault, fault_number}
+use Rattle.c_grammar.specs.Pieces.{begins_comment, IsPiece, IsFault, fault_number}
 use Rattle.c_grammar.specs.Lexed as whole
 use Rattle.c_grammar.specs.Lexed.{place_behind, tokens_of, Cuts, Stops}
 use Rattle.c_lang.specs.Refusals.{refused_at}

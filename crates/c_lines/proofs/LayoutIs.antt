@@ -8,7 +8,7 @@ use Rattle.c_lang.specs.Names.{Bytes}
 use Rattle.c_lang.specs.Units.{FitsNumber, IsPosition}
 use Rattle.c_lines.specs.Sources.{set_line, show_line}
 use Rattle.c_lines.specs.Layout as layout
-use Rattle.c_lines.specs.Layout.{Piece, shows, sets, skips, asks, both_name, IsPiece, ArePositionsOfExpansion}
+use Rattle.c_lines.specs.Layout.{Piece, shows, sets, skips, asks, both_name, IsPiece}
 use Rattle.c_lang.specs.declared.unit.Pos.{Pos}
 use Rattle.c_lines.specs.Code.Readers.{◌>>=◌, after, behind, position, ended, many_before}
 use Rattle.c_lines.specs.Code.SourceReading.{show, setting}

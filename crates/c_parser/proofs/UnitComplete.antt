@@ -21,7 +21,7 @@ use Rattle.c_statements.proofs.BlockLaws.{is_read}
 use Rattle.c_grammar.specs.Units.{Parts}
 use Rattle.c_parser.specs.declared.params.Param.{Param}
 use Rattle.c_parser.specs.declared.params.Params.{Params}
-use Rattle.c_grammar.specs.Units.{ParamTree, nameless, ParamsTree, several, HeadTree, SignedTree, plain, negative, NumberInit, ArrayInit, PointerInit, External, prototype, param_tokens, params_tokens, param_list, param_kind, param_name, param_refusals, all_refusals, IsNamed, AreNamed, signed_tokens, signed_value, number_init_tokens, array_init_tokens, pointer_init_tokens, external_tokens, external_height, IsExternal, values_of, target_of, named_param, add, with_array, with_pointer, with_proto, with_func, function_start}
+use Rattle.c_grammar.specs.Units.{ParamTree, nameless, ParamsTree, several, HeadTree, SignedTree, plain, negative, NumberInit, ArrayInit, PointerInit, External, prototype, param_tokens, params_tokens, param_list, param_kind, param_refusals, all_refusals, IsNamed, AreNamed, signed_tokens, signed_value, array_init_tokens, pointer_init_tokens, external_tokens, external_height, IsExternal, values_of, target_of, named_param, add, with_array, with_pointer, with_proto, function_start}
 use Rattle.c_grammar.specs.Units as u
 use Rattle.c_parser.specs.Code.UnitReading.{with_param, param, no_params, params_by, params_at, named_params, signed_at, value, ended, number_global, values_at, array_global, target_at, pointer_global, headed_by, headed, function_at, int_external, void_external, external}
 

@@ -24,7 +24,7 @@ use Rattle.c_statements.proofs.BlockLaws.{is_block}
 use Rattle.c_grammar.specs.Units.{Parts}
 use Rattle.c_parser.specs.declared.params.Param.{Param}
 use Rattle.c_parser.specs.declared.params.Params.{Params}
-use Rattle.c_grammar.specs.Units.{ParamTree, nameless, ParamsTree, several, HeadTree, SignedTree, plain, negative, NumberInit, ArrayInit, PointerInit, External, prototype, param_tokens, params_tokens, param_list, param_kind, named_param, all_refusals, IsNamed, AreNamed, signed_tokens, signed_value, number_init_tokens, array_init_tokens, pointer_init_tokens, external_tokens, external_height, IsExternal, with_number, with_array, with_pointer, with_proto, with_func, start_value, values_of, target_of, body_start, function_start, add}
+use Rattle.c_grammar.specs.Units.{ParamTree, nameless, ParamsTree, several, SignedTree, plain, negative, ArrayInit, PointerInit, External, prototype, param_tokens, params_tokens, param_list, named_param, all_refusals, IsNamed, AreNamed, signed_tokens, signed_value, array_init_tokens, pointer_init_tokens, external_tokens, external_height, IsExternal, with_number, with_array, with_pointer, with_proto, with_func, values_of, target_of, body_start, add}
 use Rattle.c_grammar.specs.Units as u
 use Rattle.c_parser.specs.Code.UnitReading.{with_param, param_by, param, no_params, params_by, params_at, named_params, signed_by, signed_at, value, ended, number_by, number_global, values_by, values_at, array_global, zero_at, target_by, start_by, target_at, pointer_global, headed_by, headed, function_at, named_by, int_by, int_external, void_external, external_by, external}
 use Rattle.c_parser.proofs.UnitComplete.{param_of, add_param, added_params, params_of, kinds_are, add_value, added_values}

@@ -17,7 +17,7 @@ use Rattle.c_grammar.specs.declared.token.Word.TheVariants as w
 use Rattle.c_grammar.specs.Tokens.{At, token, mark, keyword, round_open, round_close, brace_open, brace_close, square_open, square_close, semicolon, equals, else_key, if_key, while_key, int_key, break_key, return_key, assert_key, client_out_key, client_in_key, dsu_choice_key, dsu_update_key, dsu_force_key, dsu_updated_key}
 use Rattle.c_grammar.specs.Scopes.{Scope, declare, refuse_arity, is_client, is_merge}
 use Rattle.c_expressions.specs.Code.ParseSteps.{◌>>=◌, after, after_key, named, name_at, number_at}
-use Rattle.c_grammar.specs.Expressions.{Tree, tokens_of, expr_of, IsGrouped}
+use Rattle.c_grammar.specs.Expressions.{tokens_of, expr_of, IsGrouped}
 use Rattle.c_grammar.specs.Expressions as e
 use Rattle.c_expressions.specs.Code.ExpressionReading.{Found, expr}
 use Rattle.c_grammar.specs.Statements as g

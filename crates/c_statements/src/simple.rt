@@ -90,6 +90,22 @@ fn right_to(pos: Pos, dest: Dest, right: Right) -> Stmt
     }
 }
 
+/// The statement that stores a call's result in the temporary of this number, and the temporary.
+fn to_temporary(
+    alloc: Global,
+    pos: Pos,
+    number: u64,
+    call: Call,
+) -> Result<(Items<Stmt>, Boxed<Expr>), AllocError>
+    ensures stmts { IfOk result (λ x. x.0 ≡ grammar.call_to pos (Dest.Fresh Kind.Int (scopes.temporary number)) call ∷ []) }
+    ensures value { IfOk result (λ x. x.1 ≡ Expr.Var (scopes.temporary number)) }
+{
+    let name = temporary(alloc, number)?;
+    let value = Boxed::new(alloc, Expr::Var(name.copy(alloc)?))?;
+    let stmts = only(alloc, call_to(pos, Dest::Fresh(Kind::Int, name), call))?;
+    Ok((stmts, value))
+}
+
 /// A right side's value, with the statement before that stores a call's result in a temporary.
 #[derive(Drop)]
 struct Stored {
@@ -112,9 +128,7 @@ fn store(alloc: Global, pos: Pos, scope: Scope, right: Right) -> Result<Stored, 
             scope,
         }),
         Right::Call(call) => {
-            let name = temporary(alloc, scope.count + 1)?;
-            let value = Boxed::new(alloc, Expr::Var(name.copy(alloc)?))?;
-            let before = only(alloc, call_to(pos, Dest::Fresh(Kind::Int, name), call))?;
+            let (before, value) = to_temporary(alloc, pos, scope.count + 1, call)?;
             Ok(Stored {
                 before,
                 value,
@@ -153,13 +167,13 @@ fn set(
 fn set_element(
     alloc: Global,
     pos: Pos,
-    array: Name,
+    array: &Name,
     index: Boxed<Expr>,
     scope: Scope,
     right: Right,
 ) -> Result<(Items<Stmt>, Scope), AllocError>
     requires { scope.count + 1 < 2 ^ 64 }
-    ensures stmts { IfOk result (λ x. x.0 ≡ grammar.element_stmts pos array index (seen_scope scope) right) }
+    ensures stmts { IfOk result (λ x. x.0 ≡ grammar.element_stmts pos array.now index (seen_scope scope) right) }
     ensures scope { IfOk result (λ x. seen_scope x.1 ≡ (grammar.stored pos (seen_scope scope) right).scope) }
     ensures count { IfOk result (λ x. x.1.count ≤ scope.count + 1) }
 {
@@ -167,7 +181,7 @@ fn set_element(
     let mut stmts = stored.before;
     stmts.push(Stmt::SetElem {
         pos,
-        array,
+        array: array.copy(alloc)?,
         index: index.into_inner(),
         value: stored.value.into_inner(),
     })?;
@@ -237,7 +251,7 @@ fn assign_element<'a>(
     let given = after(punctuator::EQUALS, equals)?;
     let side = right_side(alloc, unit, below, given)?;
     let height = index.height.max(side.height) + 1;
-    let (stmts, scope) = set_element(alloc, pos, name.copy(alloc)?, index.expr, scope, side.right)?;
+    let (stmts, scope) = set_element(alloc, pos, name, index.expr, scope, side.right)?;
     done(stmts, height, scope, side.rest)
 }
 

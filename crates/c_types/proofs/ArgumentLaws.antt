@@ -1,12 +1,11 @@
 -- The numbers that refuse arguments, found one after the other.
-use Rattle.std.proofs.Common.{◌≡◌, ◌-◌, ℕ, zero, suc, List, [], ◌∷◌, length, map, Option, Some, None, refl, ap, arith}
+use Rattle.std.proofs.Common.{◌≡◌, ◌-◌, ℕ, zero, suc, List, ◌∷◌, length, map, Option, refl, ap, arith}
 use Rattle.std.proofs.lemmas.List.{length-map}
 use Rattle.c_lang.specs.Trees.{Expression, expression_of}
 use Rattle.c_lang.specs.declared.expr.Expr.{Expr}
 use Rattle.c_lang.specs.declared.stmt.Kind.{Kind}
-use Rattle.c_lang.specs.declared.stmt.Kind.TheVariants.{Int}
 use Rattle.c_types.specs.Names.{Names, smaller}
-use Rattle.c_types.specs.Expressions.{wrong, own_kind}
+use Rattle.c_types.specs.Expressions.{wrong}
 use Rattle.c_types.specs.Calls.{first_place, other_places, wrong_places, wrong_count, wrong_args, ints}
 use Rattle.c_types.proofs.Combined.{smaller_assoc}
 

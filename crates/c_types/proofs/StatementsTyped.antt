@@ -9,7 +9,7 @@ use Rattle.c_lang.specs.declared.stmt.Dest.{Dest}
 use Rattle.c_lang.specs.declared.stmt.Dest.TheVariants.{Nowhere, Into, Fresh}
 use Rattle.c_lang.specs.declared.stmt.Kind.{Kind}
 use Rattle.c_lang.specs.declared.stmt.Kind.TheVariants.{Int, Fp}
-use Rattle.c_types.specs.Names.{Means, Cell, Array, Code, Refused, Names, found, stands_from, stands_before, smaller, fits}
+use Rattle.c_types.specs.Names.{Means, Cell, Array, Code, Refused, Names, found, stands_from, stands_before, smaller}
 use Rattle.c_types.specs.Scopes.{Scope, Block, in_scope, names_of, is_another, kind_of_dest, wrong_kind, wrong_fresh, wrong_target, wrong_dest, wrong_effect, names_version}
 use Rattle.c_types.specs.Expressions.{wrong, wrong_array, own_kind}
 use Rattle.c_types.specs.Checks.{at_place, first}

@@ -1,6 +1,6 @@
 -- A table of names and what it stands for.
-use Rattle.std.proofs.Common.{◌≡◌, ◌∙◌, ◌++◌, ◌∷◌, [], ℕ, List, map, take, length, Option, None, Some, true, false, Bool, is_some, refl, sym, ap}
-use Rattle.std.specs.Prelude.{bytes_eq, position}
+use Rattle.std.proofs.Common.{◌≡◌, ◌∙◌, ◌++◌, ◌∷◌, [], ℕ, List, map, take, length, Option, None, Some, true, false, is_some, refl, sym, ap}
+use Rattle.std.specs.Prelude.{bytes_eq}
 use Rattle.std.specs.Map.{lookup, keys_of}
 use Rattle.std.proofs.lemmas.List.{map-append, take-map, length-map}
 use Rattle.std.proofs.lemmas.Map.Made.{lookup-map_values, keys_of-map_values}
@@ -51,6 +51,6 @@ pub added-new : {S : Type 0} (table : IndexMap Bytes code.Means S) (entries : En
 added-new table entries new x m same inserted absent =
     let none : lookup (bytes_eq x) table.entries ≡ None = nothing (lookup (bytes_eq x) table.entries) absent in
     let is : map seen_entry new ≡ map seen_entry table.entries ++ (x, seen_means m) ∷ [] =
-      ap (map seen_entry) (inserted ∙ insert_entry-new bytes_eq table x m none) ∙ map-append seen_entry table.entries ((x, m) ∷ []) in
+    ap (map seen_entry) (inserted ∙ insert_entry-new bytes_eq table x m none) ∙ map-append seen_entry table.entries ((x, m) ∷ []) in
     let missing : is_some (found (map seen_entry table.entries) x) ≡ false = is_some_found table.entries x ∙ absent in
     rw (← same) (is ∙ sym (added-absent (map seen_entry table.entries) x (seen_means m) missing))

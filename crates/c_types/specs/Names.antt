@@ -1,5 +1,5 @@
 -- What names stand for, and the numbers that refuse their use.
-use Rattle.std.specs.Prelude.{ℕ, nat_lt, nat_le, Bool, true, false, if◌then◌else◌, List, [], ◌∷◌, ◌++◌, Option, Some, None, bytes_eq, position}
+use Rattle.std.specs.Prelude.{ℕ, nat_lt, nat_le, Bool, false, if◌then◌else◌, List, [], ◌∷◌, ◌++◌, Option, Some, None, bytes_eq, position}
 use Rattle.std.specs.Option.{is_some}
 use Rattle.std.specs.Map.{lookup, keys_of}
 use Rattle.c_lang.specs.Refusals as refused

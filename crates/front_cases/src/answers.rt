@@ -1,5 +1,8 @@
 //! What each command answers.
 
+ghost use Rattle.std.specs.Prelude.{IfOk};
+ghost use Rattle.c_grammar.specs.Written.{IsWritten};
+
 use anyhow::{Result, bail};
 use c_lang::{Expr, Fail, Program, Stmt, Unit, height_limit};
 use c_lexer::{Token, Word, lex};
@@ -32,7 +35,9 @@ fn shown(alloc: Global, answer: Result<String, Fail>) -> Result<String, AllocErr
     }
 }
 
-fn program_of(alloc: Global, unit: Unit, text: &[u8]) -> Result<Program, Fail> {
+fn program_of(alloc: Global, unit: Unit, text: &[u8]) -> Result<Program, Fail>
+    ensures { IfOk result (IsWritten unit) }
+{
     let tokens = lex(alloc, unit, text)?;
     parse(alloc, unit, height_limit(unit), &tokens)
 }

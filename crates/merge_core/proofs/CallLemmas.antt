@@ -5,13 +5,13 @@ use Rattle.std.proofs.lemmas.Slice.Eq.{bytes_eq-Decides}
 use Rattle.c_lang.specs.Names.{Bytes}
 use Rattle.c_lang.specs.Values.{Value, Num, Code, Null}
 use Rattle.plain_run.specs.Steps as steps
-use Rattle.plain_run.specs.Steps.{updated, local_or, Locals, Item, Does, Mark, Frame, Config, Live, Over, after_mark}
+use Rattle.plain_run.specs.Steps.{updated, local_or, Locals}
 use Rattle.c_lang.specs.Programs.{func_in}
 use Rattle.plain_run.specs.PlainRun.{Store, PlainFrame, plain_access}
 use Rattle.version_names.specs.Version.{Version}
-use Rattle.version_names.specs.Home.{Home, Linked, same_home, same_linked}
+use Rattle.version_names.specs.Home.{Home, Linked}
 use Rattle.version_names.specs.Home as home
-use Rattle.version_names.specs.Provenance.{Provenance, may_update}
+use Rattle.version_names.specs.Provenance.{Provenance}
 use Rattle.version_names.specs.Provenance as origin
 use Rattle.merge_core.specs.UpdatingRun.{World, State, UpdFrame, cell_meaning, function_meaning, code_of, updating_access}
 use Rattle.c_lang.specs.declared.unit.Pos.{Pos}

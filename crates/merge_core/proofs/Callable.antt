@@ -8,12 +8,12 @@ use Rattle.c_lang.specs.Values.{Value, Num, Code, Null, Answer, number, is_zero,
 use Rattle.c_lang.specs.Evaluation.{Look, and_then, element_at, found_element, applied, ev, joined}
 use Rattle.plain_run.specs.Moves.{Move, Goes, Asks, Shows}
 use Rattle.plain_run.specs.Steps as steps
-use Rattle.plain_run.specs.Steps.{updated, local_or, Locals, Item, Does, Mark, Frame, Config, Live, Over, after_mark}
+use Rattle.plain_run.specs.Steps.{updated, local_or, Item, Does, Mark, Live, Over, after_mark}
 use Rattle.c_lang.specs.Programs.{global_named, initial_value}
 use Rattle.plain_run.specs.PlainRun.{PlainConfig, step}
 use Rattle.version_names.specs.Version.{Version, is_old}
 use Rattle.version_names.specs.Version as version
-use Rattle.version_names.specs.Home.{Home, Linked, same_home, same_linked}
+use Rattle.version_names.specs.Home.{Home, Linked, same_linked}
 use Rattle.version_names.specs.Home as home
 use Rattle.version_names.specs.Provenance.{Provenance, may_update}
 use Rattle.version_names.specs.Provenance as origin
@@ -80,9 +80,9 @@ module _ (M : Merging) where
   good_at now (Some z) = tt
   good_at now None = tt
 
-  good_element : (now : Version) (row : List ℤ) (z : ℤ) → GoodAnswer now (element_at row z)
-  good_element now row (pos n) = good_at now (slice_get row n)
-  good_element now row (negsuc n) = tt
+  good_element : (now : Version) (elements : List ℤ) (z : ℤ) → GoodAnswer now (element_at elements z)
+  good_element now elements (pos n) = good_at now (slice_get elements n)
+  good_element now elements (negsuc n) = tt
 
   good_applied : (now : Version) (o : Op) (v w : Value Linked) → GoodAnswer now (applied same_linked o v w)
   good_applied now op.Mul v w = good_range now (number v *ℤ number w)
@@ -125,7 +125,7 @@ module _ (M : Merging) where
     good_ev : (e : Expression) → GoodAnswer now (ev same_linked l e)
     good_ev (literal z) = tt
     good_ev (variable x) = values x
-    good_ev (element a i) = good_then now (ev same_linked l i) (λ v. element_at (l.row a) (number v)) (good_ev i) (λ v. good_element now (l.row a) (number v))
+    good_ev (element a i) = good_then now (ev same_linked l i) (λ v. element_at (l.elements a) (number v)) (good_ev i) (λ v. good_element now (l.elements a) (number v))
     good_ev (function f) = codes f
     good_ev null = tt
     good_ev (negation e) = good_then now (ev same_linked l e) (λ v. negated (number v)) (good_ev e) (λ v. good_range now (pos 0 -ℤ number v))
@@ -292,9 +292,9 @@ module _ (M : Merging) where
       good_test true x y h k = h
       good_test false x y h k = k
 
-      good_row : (o : Option (List ℤ)) (p : Pos) (go : List ℤ → Move (UpdConfig)) → ((row : List ℤ) → HoldsU (go row)) → HoldsU (steps.with_row (updating_access W) o p go)
-      good_row (Some row) p go k = k row
-      good_row None p go k = tt
+      good_elements : (o : Option (List ℤ)) (p : Pos) (go : List ℤ → Move (UpdConfig)) → ((elements : List ℤ) → HoldsU (go elements)) → HoldsU (steps.with_elements (updating_access W) o p go)
+      good_elements (Some elements) p go k = k elements
+      good_elements None p go k = tt
 
       module _ (g : State) (f : UpdFrame) (fs : List UpdFrame) (s : GoodState g) (h : GoodFrame g.now f) (r : GoodFrames g.now fs) where
         abbrev pub NU : steps.Access Linked State Provenance
@@ -315,9 +315,9 @@ module _ (M : Merging) where
         good_kind t (one.Skip p) = (s, h, r)
         good_kind t (one.Set p d e) = good_with g.now (steps.value_of NU g f e) p (λ v. Goes [] (steps.stored NU g f fs d v)) (good_value g f s h e) (λ v m. good_stored g f fs d v s h r m)
         good_kind t (one.SetElem p a i e) =
-            good_with g.now (steps.value_of NU g f i) p (λ at. steps.with NU (steps.value_of NU g f e) p (λ v. steps.with_row NU (steps.row_with (NU.row f.origin g a) (number at) (number v)) p (λ row. Goes [] (Live (NU.put_row f.origin a row g) f fs)))) (good_value g f s h i) (λ at m.
-            good_with g.now (steps.value_of NU g f e) p (λ v. steps.with_row NU (steps.row_with (NU.row f.origin g a) (number at) (number v)) p (λ row. Goes [] (Live (NU.put_row f.origin a row g) f fs))) (good_value g f s h e) (λ v m.
-            good_row (steps.row_with (NU.row f.origin g a) (number at) (number v)) p (λ row. Goes [] (Live (NU.put_row f.origin a row g) f fs)) (λ row. (s, record { there = h.there; locals = h.locals }, r))))
+            good_with g.now (steps.value_of NU g f i) p (λ at. steps.with NU (steps.value_of NU g f e) p (λ v. steps.with_elements NU (steps.elements_with (NU.elements f.origin g a) (number at) (number v)) p (λ elements. Goes [] (Live (NU.put_elements f.origin a elements g) f fs)))) (good_value g f s h i) (λ at m.
+            good_with g.now (steps.value_of NU g f e) p (λ v. steps.with_elements NU (steps.elements_with (NU.elements f.origin g a) (number at) (number v)) p (λ elements. Goes [] (Live (NU.put_elements f.origin a elements g) f fs))) (good_value g f s h e) (λ v m.
+            good_elements (steps.elements_with (NU.elements f.origin g a) (number at) (number v)) p (λ elements. Goes [] (Live (NU.put_elements f.origin a elements g) f fs)) (λ elements. (s, record { there = h.there; locals = h.locals }, r))))
         good_kind t (one.Call p d x es) = good_called p d x es
         good_kind t (one.CallBy p d x es) = good_withs g.now (steps.values_of NU g f es) p (λ vs. steps.by_pointer NU ((steps.look NU g f).value x) g f fs vs d p) (good_values g f s h es) (λ vs a.
             good_pointer ((steps.look NU g f).value x) g f fs vs d p (good_look g f s h x) s h r a)

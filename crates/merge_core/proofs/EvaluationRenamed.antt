@@ -29,7 +29,7 @@ module _ {F G : Type 0} (m : F → G) where
   -- the names under ρ stand in the second for what they stand for in the first
   pub record Carries (ρ κ : Bytes → Bytes) (l : Look F) (k : Look G) : Type 0 where
     pub value : (x : Bytes) → k.value (ρ x) ≡ renamed_value (l.value x)
-    pub row : (x : Bytes) → k.row (ρ x) ≡ l.row x
+    pub elements : (x : Bytes) → k.elements (ρ x) ≡ l.elements x
     pub code : (x : Bytes) → k.code (κ x) ≡ m (l.code x)
 
   module _ (same : F → F → Bool) (same' : G → G → Bool) (alike : (a b : F) → same' (m a) (m b) ≡ same a b) where
@@ -48,9 +48,9 @@ module _ {F G : Type 0} (m : F → G) where
     found_element-renamed (Some z) = refl
     found_element-renamed None = refl
 
-    element_at-renamed : (row : List ℤ) (z : ℤ) → element_at row z ≡ renamed_answer (element_at row z)
-    element_at-renamed row (pos n) = found_element-renamed (slice_get row n)
-    element_at-renamed row (negsuc n) = refl
+    element_at-renamed : (elements : List ℤ) (z : ℤ) → element_at elements z ≡ renamed_answer (element_at elements z)
+    element_at-renamed elements (pos n) = found_element-renamed (slice_get elements n)
+    element_at-renamed elements (negsuc n) = refl
 
     chosen : (b : Bool) (x y : Answer G) (u v : Answer F) → x ≡ renamed_answer u → y ≡ renamed_answer v
         → (if b then x else y) ≡ renamed_answer (if b then u else v)
@@ -123,8 +123,8 @@ module _ {F G : Type 0} (m : F → G) where
     ev-renamed ρ κ l k c (literal z) = refl
     ev-renamed ρ κ l k c (variable x) = ap Ok (c.value x)
     ev-renamed ρ κ l k c (element a i) =
-        ap (λ r. and_then r (λ v. element_at (k.row (ρ a)) (number v))) (ev-renamed ρ κ l k c i)
-        ∙ then-renamed (ev same l i) _ _ (λ v. ap₂ element_at (c.row a) (number-renamed v) ∙ element_at-renamed (l.row a) (number v))
+        ap (λ r. and_then r (λ v. element_at (k.elements (ρ a)) (number v))) (ev-renamed ρ κ l k c i)
+        ∙ then-renamed (ev same l i) _ _ (λ v. ap₂ element_at (c.elements a) (number-renamed v) ∙ element_at-renamed (l.elements a) (number v))
     ev-renamed ρ κ l k c (function f) = ap (λ h. Ok (Code h)) (c.code f)
     ev-renamed ρ κ l k c null = refl
     ev-renamed ρ κ l k c (negation e) =

@@ -4,11 +4,11 @@ use Rattle.std.specs.Str.{bytes_eq}
 use Rattle.c_lang.specs.Names.{Bytes}
 use Rattle.plain_run.specs.Moves.{Goes}
 use Rattle.plain_run.specs.Steps as steps
-use Rattle.plain_run.specs.Steps.{Does, Live, Over, Frame, Config}
+use Rattle.plain_run.specs.Steps.{Does, Live}
 use Rattle.c_lang.specs.Units.{at}
 use Rattle.c_lines.specs.Sources.{global, first_line}
 use Rattle.c_lines.specs.Layout.{both_name, layout_program}
-use Rattle.c_lang.specs.Programs.{func_named, func_in, no_func, global_named, initial_value, initial_row}
+use Rattle.c_lang.specs.Programs.{func_named, func_in, no_func, global_named, initial_value, initial_elements}
 use Rattle.plain_run.specs.PlainRun.{Store, PlainFrame, PlainConfig, plain_access, dropped, step, start}
 use Rattle.version_names.specs.Version.{Version}
 use Rattle.version_names.specs.Version as version
@@ -148,7 +148,7 @@ module _ (F : FirstParts) where
   abbrev store : Store
   store = record {
     values = λ x. initial_value (λ f. f) (global_named P.globals x);
-    rows = λ x. initial_row (global_named P.globals x);
+    arrays = λ x. initial_elements (global_named P.globals x);
   }
 
   -- the shared number has its place in both
@@ -171,16 +171,16 @@ module _ (F : FirstParts) where
   abbrev at_start : Linked → Type 0
   at_start c =
       (store.values (cell_name c) ≡ renamed_value code_name (settled_start.values c.0 c.1))
-      × (store.rows (cell_name c) ≡ settled_start.rows c.0 c.1)
+      × (store.arrays (cell_name c) ≡ settled_start.arrays c.0 c.1)
 
   shared_at_start : at_start (home.Both, N)
   shared_at_start = (
     ap (initial_value (λ f. f)) global_named-both ∙ ap (λ g. renamed_value code_name (initial_value (function_meaning W origin.Old version.Old) g)) (sym global_named-old),
-    ap initial_row global_named-both ∙ ap initial_row (sym global_named-old),
+    ap initial_elements global_named-both ∙ ap initial_elements (sym global_named-old),
   )
 
   unlinked_at_start : (x : Bytes) → at_start (home.Unlinked, x)
-  unlinked_at_start x = (ap (initial_value (λ f. f)) (global_named-kept x), ap initial_row (global_named-kept x))
+  unlinked_at_start x = (ap (initial_value (λ f. f)) (global_named-kept x), ap initial_elements (global_named-kept x))
 
   each_at_start : (o : Provenance) (x : Bytes) → at_start (cell_meaning W o x)
   each_at_start o x = by_meaning (parts.cell-is F o x)
@@ -193,7 +193,7 @@ module _ (F : FirstParts) where
   start_state : SameState M (first_state W) store
   start_state = record {
     values = λ o x. (each_at_start o x).0;
-    rows = λ o x. (each_at_start o x).1;
+    arrays = λ o x. (each_at_start o x).1;
     now = refl;
   }
 

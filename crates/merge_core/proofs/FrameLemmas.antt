@@ -6,13 +6,13 @@ use Rattle.c_lang.specs.Names.{Bytes}
 use Rattle.c_lang.specs.Values.{Value, Num}
 use Rattle.plain_run.specs.Moves.{Move, Goes}
 use Rattle.plain_run.specs.Steps as steps
-use Rattle.plain_run.specs.Steps.{updated, local_or, Locals, Item, Does, Mark, Frame, Config, Live, Over, after_mark}
+use Rattle.plain_run.specs.Steps.{updated, Item, Does, Mark, Live, Over, after_mark}
 use Rattle.c_lang.specs.Programs.{func_in}
 use Rattle.plain_run.specs.PlainRun.{Store, PlainFrame, PlainConfig, plain_access, dropped, step}
-use Rattle.version_names.specs.Version.{Version, is_old}
+use Rattle.version_names.specs.Version.{Version}
 use Rattle.version_names.specs.Version as version
 use Rattle.version_names.specs.Home.{Linked}
-use Rattle.version_names.specs.Provenance.{Provenance, may_update}
+use Rattle.version_names.specs.Provenance.{Provenance}
 use Rattle.version_names.specs.Provenance as origin
 use Rattle.merge_core.specs.UpdatingRun.{World, State, UpdFrame, UpdConfig, cell_meaning, updating_access}
 use Rattle.plain_run.proofs.Simulation.{Comes, goes_once, then_leads, silently}

@@ -7,9 +7,9 @@ use Rattle.c_lang.specs.Values.{Value, Num}
 use Rattle.plain_run.specs.Moves.{Move}
 use Rattle.plain_run.specs.Steps.{Does, Live, Over}
 use Rattle.plain_run.specs.PlainRun.{Store, PlainFrame, PlainConfig, step}
-use Rattle.version_names.specs.Version.{Version, is_old}
+use Rattle.version_names.specs.Version.{Version}
 use Rattle.version_names.specs.Version as version
-use Rattle.version_names.specs.Home.{Home, Linked, same_home, same_linked}
+use Rattle.version_names.specs.Home.{Home, Linked, same_linked}
 use Rattle.version_names.specs.Home as home
 use Rattle.version_names.specs.Provenance.{Provenance}
 use Rattle.merge_core.specs.UpdatingRun.{World, State, UpdFrame, UpdConfig, cell_meaning, function_meaning, swapped_state, step_updating}
@@ -94,7 +94,7 @@ module _ (M : Merging) where
 
   pub record SameState (g : State) (s : Store) : Type 0 where
     pub values : (o : Provenance) (x : Bytes) → s.values (ρ o x) ≡ value' ((settled g).values (cell_meaning W o x).0 (cell_meaning W o x).1)
-    pub rows : (o : Provenance) (x : Bytes) → s.rows (ρ o x) ≡ (settled g).rows (cell_meaning W o x).0 (cell_meaning W o x).1
+    pub arrays : (o : Provenance) (x : Bytes) → s.arrays (ρ o x) ≡ (settled g).arrays (cell_meaning W o x).0 (cell_meaning W o x).1
     pub now : s.values now_name ≡ flag g.now
 
   pub record SameFrame (now : Version) (f : UpdFrame) (q : PlainFrame) : Type 0 where

@@ -8,9 +8,9 @@ use Rattle.c_lang.specs.Values.{Value, Answer}
 use Rattle.c_lang.specs.Evaluation.{Look, ev}
 use Rattle.plain_run.specs.Moves.{Move}
 use Rattle.plain_run.specs.Steps as steps
-use Rattle.plain_run.specs.Steps.{updated, local_or, Locals, Item, Does, Mark, Frame, Config, Live, Over, after_mark}
+use Rattle.plain_run.specs.Steps.{updated, local_or, Over}
 use Rattle.plain_run.specs.PlainRun.{Store, PlainFrame, PlainConfig, plain_access, step}
-use Rattle.version_names.specs.Version.{Version, is_old}
+use Rattle.version_names.specs.Version.{Version}
 use Rattle.version_names.specs.Version as version
 use Rattle.version_names.specs.Home.{Home, Linked, same_home, same_linked}
 use Rattle.version_names.specs.Home as home
@@ -56,7 +56,7 @@ module _ (M : Merging) where
   -- ---- reading
 
   pub settled_there : (now : Version) (g : State) (h : Home) (x : Bytes) → is_there now h ≡ true
-      → ((settled_by M now g).values h x ≡ g.values h x) × ((settled_by M now g).rows h x ≡ g.rows h x)
+      → ((settled_by M now g).values h x ≡ g.values h x) × ((settled_by M now g).arrays h x ≡ g.arrays h x)
   settled_there version.New g h x t = (refl, refl)
   settled_there version.Old g home.New x t = cc
   settled_there version.Old g home.Both x t = (refl, refl)
@@ -81,7 +81,7 @@ module _ (M : Merging) where
       value = λ x. let c = cell_meaning W f.origin x in
           ap₂ local_or (sf.locals x) (ss.values f.origin x ∙ ap value' (settled_there g.now g c.0 c.1 (sf.there x)).0)
           ∙ local_or-renamed (f.locals x) (g.values c.0 c.1);
-      row = λ x. let c = cell_meaning W f.origin x in ss.rows f.origin x ∙ (settled_there g.now g c.0 c.1 (sf.there x)).1;
+      elements = λ x. let c = cell_meaning W f.origin x in ss.arrays f.origin x ∙ (settled_there g.now g c.0 c.1 (sf.there x)).1;
       code = λ x. names.codes f.origin g.now x;
     }
 
@@ -119,10 +119,10 @@ module _ (M : Merging) where
   settled_put version.Old g k v home.Client x t = refl
   settled_put version.Old g k v home.Unlinked x t = refl
 
-  settled_rows : (now : Version) (g : State) (vs : Home → Bytes → Value Linked) (h : Home) (x : Bytes)
-      → (settled_by M now (record g { values = vs })).rows h x ≡ (settled_by M now g).rows h x
-  settled_rows version.New g vs h x = refl
-  settled_rows version.Old g vs h x = refl
+  settled_arrays : (now : Version) (g : State) (vs : Home → Bytes → Value Linked) (h : Home) (x : Bytes)
+      → (settled_by M now (record g { values = vs })).arrays h x ≡ (settled_by M now g).arrays h x
+  settled_arrays version.New g vs h x = refl
+  settled_arrays version.Old g vs h x = refl
 
   pick : (b : Bool) (v w : Value Linked) → (if b then value' v else value' w) ≡ value' (if b then v else w)
   pick true v w = refl
@@ -135,8 +135,8 @@ module _ (M : Merging) where
         ap₂ (λ b z. if b then value' v else z) (names.cells o x q y) (ss.values q y)
         ∙ pick (same_linked (cell_meaning W o x) c) v ((settled M g).values c.0 c.1)
         ∙ ap value' (sym (settled_put g.now g (cell_meaning W o x) v c.0 c.1 t));
-    rows = λ q y. let c = cell_meaning W q y in
-        ss.rows q y ∙ sym (settled_rows g.now g (put_linked g.values (cell_meaning W o x) v) c.0 c.1);
+    arrays = λ q y. let c = cell_meaning W q y in
+        ss.arrays q y ∙ sym (settled_arrays g.now g (put_linked g.values (cell_meaning W o x) v) c.0 c.1);
     now = ap (λ b. if b then value' v else s.values now_name) (names.apart_now o x) ∙ ss.now;
   }
 
@@ -170,38 +170,38 @@ module _ (M : Merging) where
     same_stored (Into x) v = same_into x v (f.locals x) (q.locals (ρ o x)) (sf.locals x)
     same_stored (Fresh k x) v = (ss, same_local x v, sb)
 
-  -- ---- rows and lists of values
+  -- ---- arrays and lists of values
 
-  settled_put_row : (now : Version) (g : State) (k : Linked) (row : List ℤ) (h : Home) (x : Bytes) → is_there now k.0 ≡ true
-      → (settled_by M now (record g { rows = put_linked g.rows k row })).rows h x ≡ put_linked (settled_by M now g).rows k row h x
-  settled_put_row version.New g k row h x t = refl
-  settled_put_row version.Old g k row home.New x t =
-      ap (λ b. if b && bytes_eq k.1 x then row else (swapped_state W g).rows home.New x) (sym (never_new k.0 t))
-  settled_put_row version.Old g k row home.Both x t = refl
-  settled_put_row version.Old g k row home.Old x t = refl
-  settled_put_row version.Old g k row home.Xform x t = refl
-  settled_put_row version.Old g k row home.Client x t = refl
-  settled_put_row version.Old g k row home.Unlinked x t = refl
+  settled_put_elements : (now : Version) (g : State) (k : Linked) (elements : List ℤ) (h : Home) (x : Bytes) → is_there now k.0 ≡ true
+      → (settled_by M now (record g { arrays = put_linked g.arrays k elements })).arrays h x ≡ put_linked (settled_by M now g).arrays k elements h x
+  settled_put_elements version.New g k elements h x t = refl
+  settled_put_elements version.Old g k elements home.New x t =
+      ap (λ b. if b && bytes_eq k.1 x then elements else (swapped_state W g).arrays home.New x) (sym (never_new k.0 t))
+  settled_put_elements version.Old g k elements home.Both x t = refl
+  settled_put_elements version.Old g k elements home.Old x t = refl
+  settled_put_elements version.Old g k elements home.Xform x t = refl
+  settled_put_elements version.Old g k elements home.Client x t = refl
+  settled_put_elements version.Old g k elements home.Unlinked x t = refl
 
   settled_values : (now : Version) (g : State) (rs : Home → Bytes → List ℤ) (h : Home) (x : Bytes)
-      → (settled_by M now (record g { rows = rs })).values h x ≡ (settled_by M now g).values h x
+      → (settled_by M now (record g { arrays = rs })).values h x ≡ (settled_by M now g).values h x
   settled_values version.New g rs h x = refl
   settled_values version.Old g rs h x = refl
 
-  pub same_put_row : (g : State) (s : Store) (o : Provenance) (x : Bytes) (row : List ℤ) → is_there g.now (cell_meaning W o x).0 ≡ true → SameState M g s
-      → SameState M ((updating_access W).put_row o x row g) (record s { rows = updated s.rows (ρ o x) row })
-  same_put_row g s o x row t ss = record {
+  pub same_put_elements : (g : State) (s : Store) (o : Provenance) (x : Bytes) (elements : List ℤ) → is_there g.now (cell_meaning W o x).0 ≡ true → SameState M g s
+      → SameState M ((updating_access W).put_elements o x elements g) (record s { arrays = updated s.arrays (ρ o x) elements })
+  same_put_elements g s o x elements t ss = record {
     values = λ q y. let c = cell_meaning W q y in
-        ss.values q y ∙ ap value' (sym (settled_values g.now g (put_linked g.rows (cell_meaning W o x) row) c.0 c.1));
-    rows = λ q y. let c = cell_meaning W q y in
-        ap₂ (λ b z. if b then row else z) (names.cells o x q y) (ss.rows q y) ∙ sym (settled_put_row g.now g (cell_meaning W o x) row c.0 c.1 t);
+        ss.values q y ∙ ap value' (sym (settled_values g.now g (put_linked g.arrays (cell_meaning W o x) elements) c.0 c.1));
+    arrays = λ q y. let c = cell_meaning W q y in
+        ap₂ (λ b z. if b then elements else z) (names.cells o x q y) (ss.arrays q y) ∙ sym (settled_put_elements g.now g (cell_meaning W o x) elements c.0 c.1 t);
     now = ss.now;
   }
 
-  pub by_row : (a : Option (List ℤ)) (p : Pos) (go : List ℤ → Move UpdConfig) (go' : List ℤ → Move PlainConfig) (c : PlainConfig)
-      → step P c ≡ steps.with_row (plain_access P) a p go' → ((row : List ℤ) → step P c ≡ go' row → Follows M (go row) c) → Follows M (steps.with_row (updating_access W) a p go) c
-  by_row (Some row) p go go' c is h = h row is
-  by_row None p go go' c is h = (Over, goes_once (step P) c Over (event.Fault Index p ∷ []) is, refl)
+  pub by_elements : (a : Option (List ℤ)) (p : Pos) (go : List ℤ → Move UpdConfig) (go' : List ℤ → Move PlainConfig) (c : PlainConfig)
+      → step P c ≡ steps.with_elements (plain_access P) a p go' → ((elements : List ℤ) → step P c ≡ go' elements → Follows M (go elements) c) → Follows M (steps.with_elements (updating_access W) a p go) c
+  by_elements (Some elements) p go go' c is h = h elements is
+  by_elements None p go go' c is h = (Over, goes_once (step P) c Over (event.Fault Index p ∷ []) is, refl)
 
   abbrev pub renamed_answers : Result (List (Value Linked)) Trap → Result (List (Value Bytes)) Trap
   renamed_answers (Ok vs) = Ok (map value' vs)

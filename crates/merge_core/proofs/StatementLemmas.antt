@@ -7,12 +7,12 @@ use Rattle.c_lang.specs.Values.{Value, Num, Code, Null, number, is_zero}
 use Rattle.c_lang.specs.Evaluation.{joined}
 use Rattle.plain_run.specs.Moves.{Goes, Asks}
 use Rattle.plain_run.specs.Steps as steps
-use Rattle.plain_run.specs.Steps.{updated, local_or, Locals, Item, Does, Mark, Frame, Config, Live, Over, after_mark}
+use Rattle.plain_run.specs.Steps.{updated, local_or, Locals, Item, Does, Mark, Live, Over, after_mark}
 use Rattle.c_lang.specs.Programs.{func_in}
 use Rattle.plain_run.specs.PlainRun.{Store, PlainFrame, PlainConfig, plain_access, dropped, step}
 use Rattle.version_names.specs.Version.{Version, is_old}
 use Rattle.version_names.specs.Version as version
-use Rattle.version_names.specs.Home.{Home, Linked, same_home, same_linked}
+use Rattle.version_names.specs.Home.{Home, Linked}
 use Rattle.version_names.specs.Home as home
 use Rattle.version_names.specs.Provenance.{Provenance, may_update}
 use Rattle.version_names.specs.Provenance as origin
@@ -38,7 +38,7 @@ use Rattle.merge_core.proofs.Renaming.{under, renamed_dest}
 use Rattle.merge_core.proofs.MergedStatements.{now_name, choice_name, result_name, transform_name, is_nil, is_set, swap_body, point_body, hand_on, hand, merged_layer, merged_stmt, merged_item}
 use Rattle.merge_core.proofs.EvaluationRenamed.{renamed_value, renamed_answer, number-renamed, ev-Lit, ev-test}
 use Rattle.merge_core.proofs.Relation.{Naming, Merging, is_there, flag, transform_function, settled_by, SameState, SameFrame, Hands, Below, R, Follows}
-use Rattle.merge_core.proofs.StateLemmas.{settled_there, carries, value_of-renamed, by_answer, same_stored, same_put_row, by_row, renamed_answers, and-renamed, by_values}
+use Rattle.merge_core.proofs.StateLemmas.{settled_there, carries, value_of-renamed, by_answer, same_stored, same_put_elements, by_elements, renamed_answers, and-renamed, by_values}
 use Rattle.merge_core.proofs.FrameLemmas.{out_merged, there_later, below_later, does_map, after_mark-map, by_test, same_if, IsMerged, same_entry, given-renamed, handed_follows, HasTransform}
 use Rattle.merge_core.proofs.CallLemmas.{Params, IsWrapper, IsDirect, IsCallable, pad, bound-pad, AllAre, all_bound, no_flag-bound, read_args, HasFuncs, MayCall, IsReady}
 
@@ -142,7 +142,7 @@ module _ (M : Merging) where
         values = λ o x. let c = cell_meaning W o x in
             ap (λ b. if b then Num (pos 1) else s.values (ρ o x)) (names.now_apart o x) ∙ ss.values o x
             ∙ ap (λ n. value' ((settled_by M n g).values c.0 c.1)) old;
-        rows = λ o x. let c = cell_meaning W o x in ss.rows o x ∙ ap (λ n. (settled_by M n g).rows c.0 c.1) old;
+        arrays = λ o x. let c = cell_meaning W o x in ss.arrays o x ∙ ap (λ n. (settled_by M n g).arrays c.0 c.1) old;
         now = refl;
       }
 
@@ -346,10 +346,10 @@ module _ (M : Merging) where
     all_read [] = refl
     all_read (e ∷ es) = ap₂ (steps.and_values NP) (reads e) (all_read es) ∙ and-renamed M (steps.value_of NU g f e) (steps.values_of NU g f es)
 
-    same_row : (a : Bytes) (at v : Value Linked) → steps.row_with (NP.row tt s (ρ f.origin a)) (number (value' at)) (number (value' v)) ≡ steps.row_with (NU.row f.origin g a) (number at) (number v)
-    same_row a at v = let k = cell_meaning W f.origin a in
-        ap (λ r. steps.row_with r (number (value' at)) (number (value' v))) (ss.rows f.origin a ∙ (settled_there M g.now g k.0 k.1 (sf.there a)).1)
-        ∙ ap₂ (steps.row_with (NU.row f.origin g a)) (number-renamed κ' at) (number-renamed κ' v)
+    same_elements : (a : Bytes) (at v : Value Linked) → steps.elements_with (NP.elements tt s (ρ f.origin a)) (number (value' at)) (number (value' v)) ≡ steps.elements_with (NU.elements f.origin g a) (number at) (number v)
+    same_elements a at v = let k = cell_meaning W f.origin a in
+        ap (λ r. steps.elements_with r (number (value' at)) (number (value' v))) (ss.arrays f.origin a ∙ (settled_there M g.now g k.0 k.1 (sf.there a)).1)
+        ∙ ap₂ (steps.elements_with (NU.elements f.origin g a)) (number-renamed κ' at) (number-renamed κ' v)
 
     comes_after : (c e h : PlainConfig) → Leads (step P) c [] e → Comes (step P) e h → Leads (step P) c [] h
     comes_after c e h p r = record { by = λ n a. let y = r.by n a in let x = p.by y.0 a in (x.0, omega (arith, x.1, y.1), x.2 ∙ y.2) }
@@ -407,9 +407,9 @@ module _ (M : Merging) where
     kind_follows t (one.Skip p) h c is = once [] (Live g f fs) c (Live s q qs) is (ss, sf, sb)
     kind_follows t (one.Set p d e) h c is = by_answer M _ _ (reads e) p _ _ c is (λ v e'. once [] (steps.stored NU g f fs d v) c (steps.stored NP s q qs (renamed_dest (ρ f.origin) d) (value' v)) e' (stores d v))
     kind_follows t (one.SetElem p a i e) h c is = by_answer M _ _ (reads i) p _ _ c is (λ at e1. by_answer M _ _ (reads e) p _ _ c e1 (λ v e2.
-        by_row M (steps.row_with (NU.row f.origin g a) (number at) (number v)) p (λ row. Goes [] (Live (NU.put_row f.origin a row g) f fs)) (λ row. Goes [] (Live (NP.put_row tt (ρ f.origin a) row s) q qs)) c
-        (e2 ∙ ap (λ r. steps.with_row NP r p (λ row. Goes [] (Live (NP.put_row tt (ρ f.origin a) row s) q qs))) (same_row a at v))
-        (λ row e3. once [] (Live (NU.put_row f.origin a row g) f fs) c (Live (NP.put_row tt (ρ f.origin a) row s) q qs) e3 (same_put_row M g s f.origin a row (sf.there a) ss, sf, sb))))
+        by_elements M (steps.elements_with (NU.elements f.origin g a) (number at) (number v)) p (λ elements. Goes [] (Live (NU.put_elements f.origin a elements g) f fs)) (λ elements. Goes [] (Live (NP.put_elements tt (ρ f.origin a) elements s) q qs)) c
+        (e2 ∙ ap (λ r. steps.with_elements NP r p (λ elements. Goes [] (Live (NP.put_elements tt (ρ f.origin a) elements s) q qs))) (same_elements a at v))
+        (λ elements e3. once [] (Live (NU.put_elements f.origin a elements g) f fs) c (Live (NP.put_elements tt (ρ f.origin a) elements s) q qs) e3 (same_put_elements M g s f.origin a elements (sf.there a) ss, sf, sb))))
     kind_follows t (one.Call p d x es) h c is = called_follows (m t) p d x es c is
     kind_follows t (one.CallBy p d x es) h c is = by_values M (steps.values_of NU g f es) _ (all_read es) p (λ vs. steps.by_pointer NU ((steps.look NU g f).value x) g f fs vs d p)
         (λ vs. steps.by_pointer NP ((steps.look NP s q).value (ρ f.origin x)) s q qs vs (renamed_dest (ρ f.origin) d) p) c is (λ vs e'.

@@ -4,7 +4,7 @@ use Rattle.c_lang.specs.Names.{Bytes, behind}
 use Rattle.c_lang.specs.Values.{Value, Num, is_zero}
 use Rattle.plain_run.specs.Moves.{Move, Goes, Asks, events_of, Shows}
 use Rattle.plain_run.specs.Steps.{Frame, Config, Live, Access, Does, Special, frame_of, before_rest, act, step_with}
-use Rattle.c_lang.specs.Programs.{global_named, func_named, func_in, no_func, initial_value, initial_row}
+use Rattle.c_lang.specs.Programs.{global_named, func_named, func_in, no_func, initial_value, initial_elements}
 use Rattle.version_names.specs.Links.{cell_part, code_part}
 use Rattle.version_names.specs.Version.{Version, is_old}
 use Rattle.version_names.specs.Version as version
@@ -38,7 +38,7 @@ pub record World : Type 0 where
 pub record State : Type 0 where
   pub now : Version
   pub values : Home → Bytes → Value Linked
-  pub rows : Home → Bytes → List ℤ
+  pub arrays : Home → Bytes → List ℤ
 
 abbrev pub UpdFrame : Type 0
 UpdFrame = Frame Linked Provenance
@@ -115,10 +115,10 @@ module _ (W : World) where
   updating_access = record {
     same = same_linked;
     value = λ o g x. let c = cell_meaning o x in g.values c.0 c.1;
-    row = λ o g x. let c = cell_meaning o x in g.rows c.0 c.1;
+    elements = λ o g x. let c = cell_meaning o x in g.arrays c.0 c.1;
     code = λ o g f. function_meaning o g.now f;
     put = λ o x v g. record g { values = put_linked g.values (cell_meaning o x) v };
-    put_row = λ o x row g. record g { rows = put_linked g.rows (cell_meaning o x) row };
+    put_elements = λ o x elements g. record g { arrays = put_linked g.arrays (cell_meaning o x) elements };
     enter = λ g f. code_of g.now f;
   }
 
@@ -127,7 +127,7 @@ module _ (W : World) where
   swapped_state g = record {
     now = version.New;
     values = λ h x. if_new h (initial_value (function_meaning origin.New version.New) (global_named W.second.globals x)) (g.values h x);
-    rows = λ h x. if_new h (initial_row (global_named W.second.globals x)) (g.rows h x);
+    arrays = λ h x. if_new h (initial_elements (global_named W.second.globals x)) (g.arrays h x);
   }
 
   -- the update: the transformer runs, and then the frame goes on
@@ -160,7 +160,7 @@ module _ (W : World) where
   first_state = record {
     now = version.Old;
     values = λ h x. if_in_old h (initial_value (function_meaning origin.Old version.Old) (global_named W.first.globals x)) (Num (pos 0));
-    rows = λ h x. if_in_old h (initial_row (global_named W.first.globals x)) [];
+    arrays = λ h x. if_in_old h (initial_elements (global_named W.first.globals x)) [];
   }
 
   -- the old `main`, or the client's function

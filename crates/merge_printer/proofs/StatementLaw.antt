@@ -25,7 +25,7 @@ use Rattle.c_grammar.specs.declared.right.Call.TheVariants as c
 use Rattle.c_grammar.specs.declared.right.Right.{Right}
 use Rattle.c_grammar.specs.declared.right.Right.TheVariants as right
 use Rattle.c_grammar.specs.Scopes.{Scope, is_declared, declare, refuse_arity}
-use Rattle.c_grammar.specs.Statements.{CallTree, SideTree, PointerTree, Ints, ints_tokens, int_tokens, ints_count, pointer_tokens, arity, CondTree, cond_tokens, Simple, Piece, Body, Pieces, IsPiece, IsBody, ArePieces, body_tokens, pieces_tokens, body_height, pieces_height, body_scope, pieces_scope, body_stmts, pieces_stmts, set_stmts, set_scope, right_to, call_to, stmts, scope_after}
+use Rattle.c_grammar.specs.Statements.{CallTree, SideTree, PointerTree, Ints, ints_tokens, int_tokens, ints_count, pointer_tokens, arity, CondTree, cond_tokens, Piece, Body, Pieces, IsPiece, IsBody, ArePieces, body_tokens, pieces_tokens, body_height, pieces_height, body_scope, pieces_scope, body_stmts, pieces_stmts, set_stmts, set_scope, right_to, call_to, stmts, scope_after}
 use Rattle.c_grammar.specs.Statements as tree
 use Rattle.merge_printer.specs.Heights.{expression_height, arguments_height, statement_height, statements_height}
 use Rattle.merge_printer.specs.Positions.{StatementHasPositions, StatementsHavePositions}

@@ -18,7 +18,7 @@ use Rattle.c_lang.specs.declared.unit.Unit.TheVariants.{Merge}
 use Rattle.c_grammar.specs.Bytes.{is_in_word, is_in_number, IsEnd}
 use Rattle.c_grammar.specs.Words.{keyword_number, is_refused, is_allowed}
 use Rattle.c_grammar.specs.Punctuators.{punctuator_number, IsLongest}
-use Rattle.c_grammar.specs.Pieces.{IsPiece, IsNumber, begins_comment}
+use Rattle.c_grammar.specs.Pieces.{IsPiece, IsNumber}
 use Rattle.c_grammar.specs.Pieces as lexed
 use Rattle.c_grammar.specs.Lexed.{goes}
 use Rattle.c_grammar.specs.declared.token.Word.{Word}

@@ -14,7 +14,7 @@ use Rattle.c_grammar.specs.Expressions as e
 use Rattle.c_grammar.specs.declared.right.Right.{Right}
 use Rattle.c_grammar.specs.declared.right.Right.TheVariants as right
 use Rattle.c_grammar.specs.Scopes.{Scope, is_declared, declare}
-use Rattle.c_grammar.specs.Statements.{CondTree, cond_tokens, side_tokens, call_tokens, pointer_tokens, ints_tokens, arity, Simple, simple_tokens, simple_scope, simple_stmts, IsSimple, Piece, Body, Pieces, tokens, body_tokens, pieces_tokens, IsPiece, IsBody, ArePieces, stmts, body_stmts, pieces_stmts, scope_after, body_scope, pieces_scope, right_of, call_of, call_pos, right_to, stored, set_scope}
+use Rattle.c_grammar.specs.Statements.{CondTree, cond_tokens, side_tokens, call_tokens, pointer_tokens, arity, Simple, simple_tokens, simple_scope, simple_stmts, IsSimple, Piece, Body, Pieces, tokens, body_tokens, pieces_tokens, IsPiece, IsBody, ArePieces, stmts, body_stmts, pieces_stmts, scope_after, body_scope, pieces_scope, right_of, call_of, call_pos, stored, set_scope}
 use Rattle.c_grammar.specs.Statements as tree
 use Rattle.merge_printer.proofs.Fitting.{MayGo, scope_behind_all}
 use Rattle.merge_printer.proofs.GivenTokens.{TokensFit, fit_append}

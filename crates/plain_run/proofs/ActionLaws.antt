@@ -4,7 +4,7 @@ use Rattle.c_lang.specs.Names.{Bytes}
 use Rattle.plain_run.specs.Moves.{Move, Goes}
 use Rattle.plain_run.specs.PlainRun.{Store, PlainFrame, PlainConfig, plain_access, dropped}
 use Rattle.plain_run.specs.Steps as steps
-use Rattle.plain_run.specs.Steps.{Does, Mark, Live, row_with}
+use Rattle.plain_run.specs.Steps.{Does, Mark, Live}
 use Rattle.c_lang.specs.Values.{Value, Answer, number, is_zero}
 use Rattle.c_lang.specs.declared.event.Trap.TheVariants as trap
 use Rattle.c_lang.specs.declared.event.Event.TheVariants as event

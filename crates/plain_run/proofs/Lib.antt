@@ -5,7 +5,7 @@ pub mod TableLaws
 pub mod InitialLaws
 pub mod CallLaws
 pub mod StoreLaws
-pub mod RowLaws
+pub mod ArrayLaws
 pub mod ActionLaws
 pub mod MachineLaws
 pub mod StepLaws

@@ -3,7 +3,7 @@ use Rattle.std.proofs.Common.{◌≡◌, ℤ, ◌⊎◌, inl, inr, Bool, false, 
 use Rattle.plain_run.specs.Moves.{Move}
 use Rattle.c_lang.specs.Names.{Bytes}
 use Rattle.plain_run.specs.PlainRun.{Store, PlainFrame, PlainConfig, plain_access, start}
-use Rattle.c_lang.specs.Programs.{global_named, func_in, initial_value, initial_row}
+use Rattle.c_lang.specs.Programs.{global_named, func_in, initial_value, initial_elements}
 use Rattle.plain_run.specs.Steps as steps
 use Rattle.plain_run.specs.Steps.{Live}
 use Rattle.c_lang.specs.Values as spec
@@ -22,8 +22,8 @@ use Rattle.plain_run.specs.Code.Actions.{Call, done}
 use Rattle.plain_run.specs.Code.Calls.{Arguments, after_value, values_in}
 use Rattle.plain_run.specs.Code.Frames.{seen_frame, seen_frames}
 use Rattle.plain_run.specs.Machines.{config_if, program_of, store_of, behind_statement, look_in}
-use Rattle.plain_run.specs.Code.Names.{seen_values, seen_rows}
-use Rattle.plain_run.specs.Code.Stored.{Entries, Rows, store_with}
+use Rattle.plain_run.specs.Code.Names.{seen_values, seen_arrays}
+use Rattle.plain_run.specs.Code.Stored.{Entries, Arrays, store_with}
 use Rattle.plain_run.specs.Values.{seen_value}
 use Rattle.plain_run.proofs.FrameLaws.{seen_frames-push}
 use Rattle.plain_run.proofs.StoreLaws.{all_names}
@@ -69,12 +69,12 @@ module _ (m : Machine) (es : List Expr) (d : Dest) (p : Pos) where
 abbrev pub main : Program → PlainFrame
 main P = steps.frame_of (plain_access P) (tt, func_in P.funcs (codes "main")) [] Nowhere
 
-pub start-is : (P : Program) (values : Entries) (rows : Rows) (top : Frame) (below : Vec Frame Global)
+pub start-is : (P : Program) (values : Entries) (arrays : Arrays) (top : Frame) (below : Vec Frame Global)
     → ((x : Bytes) → seen_values values x ≡ initial_value (λ f. f) (global_named P.globals x))
-    → ((x : Bytes) → seen_rows rows x ≡ initial_row (global_named P.globals x))
+    → ((x : Bytes) → seen_arrays arrays x ≡ initial_elements (global_named P.globals x))
     → seen_frame top ≡ main P → below.items ≡ []
-    → Live (store_with values rows) (seen_frame top) (seen_frames below) ≡ start P
-start-is P values rows top below at_values at_rows above empty =
-    ap (λ f. Live (store_with values rows) f (seen_frames below)) above
-    ∙ ap (λ frames. Live (store_with values rows) (main P) (reverse (map seen_frame frames))) empty
-    ∙ ap₂ (λ v (r : Bytes → List ℤ). Live (record { values = v; rows = r }) (main P) []) (all_names _ _ at_values) (all_names _ _ at_rows)
+    → Live (store_with values arrays) (seen_frame top) (seen_frames below) ≡ start P
+start-is P values arrays top below at_values at_arrays above empty =
+    ap (λ f. Live (store_with values arrays) f (seen_frames below)) above
+    ∙ ap (λ frames. Live (store_with values arrays) (main P) (reverse (map seen_frame frames))) empty
+    ∙ ap₂ (λ v (r : Bytes → List ℤ). Live (record { values = v; arrays = r }) (main P) []) (all_names _ _ at_values) (all_names _ _ at_arrays)

@@ -30,8 +30,8 @@ module _ (old new : Entries) (k : Bor Bytes) (v : Value) (is : new ≡ insert_en
       ∙ seen-insert value_or_zero old k v x))
 
   pub stores_fresh : (values : Entries) (kind : Kind) → Stores old values (Fresh kind k.now) v new values
-  stores_fresh values kind P rows items dest gives below =
-      ap (λ locals. Live (store_with values rows) (record (frame_with old items dest gives) { locals = locals }) below) locals-insert
+  stores_fresh values kind P arrays items dest gives below =
+      ap (λ locals. Live (store_with values arrays) (record (frame_with old items dest gives) { locals = locals }) below) locals-insert
 
   in_local : (o : Option Value) → is_some o ≡ true → (P : Program) (s : Store) (f : PlainFrame) (below : List PlainFrame) (x : Bytes) (w : spec.Value Bytes)
       → into (plain_access P) (option_map seen_value o) s f below x w ≡ Live s (record f { locals = updated f.locals x (Some w) }) below
@@ -44,11 +44,11 @@ module _ (old new : Entries) (k : Bor Bytes) (v : Value) (is : new ≡ insert_en
   in_global None there P s f below x w = refl
 
   pub stores_local : (values : Entries) → is_some (found old k.now) ≡ true → Stores old values (Into k.now) v new values
-  stores_local values there P rows items dest gives below =
-      in_local (found old k.now) there P (store_with values rows) (frame_with old items dest gives) below k.now (seen_value v)
-      ∙ ap (λ locals. Live (store_with values rows) (record (frame_with old items dest gives) { locals = locals }) below) locals-insert
+  stores_local values there P arrays items dest gives below =
+      in_local (found old k.now) there P (store_with values arrays) (frame_with old items dest gives) below k.now (seen_value v)
+      ∙ ap (λ locals. Live (store_with values arrays) (record (frame_with old items dest gives) { locals = locals }) below) locals-insert
 
   pub stores_global : (locals : Entries) → is_some (found locals k.now) ≡ false → Stores locals old (Into k.now) v locals new
-  stores_global locals there P rows items dest gives below =
-      in_global (found locals k.now) there P (store_with old rows) (frame_with locals items dest gives) below k.now (seen_value v)
-      ∙ ap (λ values. Live (record (store_with old rows) { values = values }) (frame_with locals items dest gives) below) values-insert
+  stores_global locals there P arrays items dest gives below =
+      in_global (found locals k.now) there P (store_with old arrays) (frame_with locals items dest gives) below k.now (seen_value v)
+      ∙ ap (λ values. Live (record (store_with old arrays) { values = values }) (frame_with locals items dest gives) below) values-insert

@@ -22,7 +22,7 @@ abbrev pub program_of : Machine → Program
 program_of m = m.program
 
 abbrev pub store_of : Machine → Store
-store_of m = store_with m.values.entries m.rows.entries
+store_of m = store_with m.values.entries m.arrays.entries
 
 abbrev pub config_if : Bool → PlainConfig → PlainConfig
 config_if true c = Over

@@ -5,7 +5,7 @@ use Rattle.c_lang.specs.Names.{Bytes}
 use Rattle.c_lang.specs.Values.{Value}
 use Rattle.plain_run.specs.Moves.{Move, Goes, events_of, Shows}
 use Rattle.plain_run.specs.Steps.{updated, Frame, Config, Live, Access, Special, frame_of, step_with}
-use Rattle.c_lang.specs.Programs.{global_named, func_in, initial_value, initial_row}
+use Rattle.c_lang.specs.Programs.{global_named, func_in, initial_value, initial_elements}
 use Rattle.c_lang.specs.declared.event.Event.{Event}
 use Rattle.c_lang.specs.declared.stmt.Dest.TheVariants.{Nowhere}
 use Rattle.c_lang.specs.declared.program.Program.{Program}
@@ -13,7 +13,7 @@ use Rattle.c_lang.specs.declared.program.Program.{Program}
 -- the globals: the scalars and pointers, and the arrays
 pub record Store : Type 0 where
   pub values : Bytes → Value Bytes
-  pub rows : Bytes → List ℤ
+  pub arrays : Bytes → List ℤ
 
 abbrev pub PlainFrame : Type 0
 PlainFrame = Frame Bytes ⊤
@@ -26,10 +26,10 @@ abbrev pub plain_access : Program → Access Bytes Store ⊤
 plain_access P = record {
   same = bytes_eq;
   value = λ o s. s.values;
-  row = λ o s. s.rows;
+  elements = λ o s. s.arrays;
   code = λ o s f. f;
   put = λ o x v s. record s { values = updated s.values x v };
-  put_row = λ o x row s. record s { rows = updated s.rows x row };
+  put_elements = λ o x elements s. record s { arrays = updated s.arrays x elements };
   enter = λ s f. (tt, func_in P.funcs f);
 }
 
@@ -43,7 +43,7 @@ step P = step_with (plain_access P) (dropped P)
 -- the initial values, and a frame of `main`
 abbrev pub start : Program → PlainConfig
 start P = Live
-    (record { values = λ x. initial_value (λ f. f) (global_named P.globals x); rows = λ x. initial_row (global_named P.globals x) })
+    (record { values = λ x. initial_value (λ f. f) (global_named P.globals x); arrays = λ x. initial_elements (global_named P.globals x) })
     (frame_of (plain_access P) (tt, func_in P.funcs (codes "main")) [] Nowhere) []
 
 -- the events of the first n steps from the start with these answers

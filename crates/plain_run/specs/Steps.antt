@@ -53,10 +53,10 @@ pub data Config (F G O : Type 0) : Type 0 where
 pub record Access (F G O : Type 0) : Type 0 where
   pub same : F → F → Bool
   pub value : O → G → Bytes → Value F
-  pub row : O → G → Bytes → List ℤ
+  pub elements : O → G → Bytes → List ℤ
   pub code : O → G → Bytes → F
   pub put : O → Bytes → Value F → G → G
-  pub put_row : O → Bytes → List ℤ → G → G
+  pub put_elements : O → Bytes → List ℤ → G → G
   -- the body that a function has now, and where it was written
   pub enter : G → F → O × Func
 
@@ -77,9 +77,9 @@ after_mark (Does s ∷ rest) = after_mark rest
 after_mark (Mark s ∷ rest) = rest
 
 -- the array with z at an index; None outside its bounds
-abbrev pub row_with : List ℤ → ℤ → ℤ → Option (List ℤ)
-row_with row (pos n) z = if nat_lt n (length row) then Some (slice_set row n z) else None
-row_with row (negsuc n) z = None
+abbrev pub elements_with : List ℤ → ℤ → ℤ → Option (List ℤ)
+elements_with elements (pos n) z = if nat_lt n (length elements) then Some (slice_set elements n z) else None
+elements_with elements (negsuc n) z = None
 
 module _ {F G O : Type 0} (N : Access F G O) where
   abbrev pub Moves : Type 0
@@ -89,7 +89,7 @@ module _ {F G O : Type 0} (N : Access F G O) where
   abbrev pub look : G → Frame F O → Look F
   look g f = record {
     value = λ x. local_or (f.locals x) (N.value f.origin g x);
-    row = N.row f.origin g;
+    elements = N.elements f.origin g;
     code = N.code f.origin g;
   }
 
@@ -114,9 +114,9 @@ module _ {F G O : Type 0} (N : Access F G O) where
   with (Ok x) p go = go x
   with (Err t) p go = trapped t p
 
-  abbrev pub with_row : Option (List ℤ) → Pos → (List ℤ → Moves) → Moves
-  with_row (Some row) p go = go row
-  with_row None p go = trapped Index p
+  abbrev pub with_elements : Option (List ℤ) → Pos → (List ℤ → Moves) → Moves
+  with_elements (Some elements) p go = go elements
+  with_elements None p go = trapped Index p
 
   abbrev pub into : Option (Value F) → G → Frame F O → List (Frame F O) → Bytes → Value F → Config F G O
   into (Some old) g f fs x v = Live g (record f { locals = updated f.locals x (Some v) }) fs
@@ -161,7 +161,7 @@ module _ {F G O : Type 0} (N : Access F G O) where
   act special g f fs s (one.Set p d e) = with (value_of g f e) p (λ v. Goes [] (stored g f fs d v))
   act special g f fs s (one.SetElem p a i e) =
       with (value_of g f i) p (λ at. with (value_of g f e) p (λ v.
-      with_row (row_with (N.row f.origin g a) (number at) (number v)) p (λ row. Goes [] (Live (N.put_row f.origin a row g) f fs))))
+      with_elements (elements_with (N.elements f.origin g a) (number at) (number v)) p (λ elements. Goes [] (Live (N.put_elements f.origin a elements g) f fs))))
   act special g f fs s (one.Call p d h es) = with (values_of g f es) p (λ vs. entered g f fs (N.code f.origin g h) vs d)
   act special g f fs s (one.CallBy p d x es) =
       with (values_of g f es) p (λ vs. by_pointer ((look g f).value x) g f fs vs d p)

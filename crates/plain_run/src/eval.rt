@@ -8,7 +8,7 @@ ghost use Rattle.plain_run.specs.Code.Calls.{seen_arguments, values_in};
 ghost use Rattle.plain_run.specs.Code.Scopes.{look_of};
 ghost use Rattle.plain_run.specs.Values.{seen_value, seen_answer};
 
-use crate::names::{Rows, Values};
+use crate::names::{Arrays, Values};
 use crate::value::{Answer, Value, applied, negated, truth};
 use c_lang::{Expr, Name, Op, Trap};
 use std::alloc::{AllocError, Global};
@@ -18,7 +18,7 @@ use std::alloc::{AllocError, Global};
 pub struct Scope<'a, 'p> {
     pub locals: &'a Values<'p>,
     pub values: &'a Values<'p>,
-    pub rows: &'a Rows<'p>,
+    pub arrays: &'a Arrays<'p>,
 }
 
 impl<'p> Scope<'_, 'p> {
@@ -37,15 +37,15 @@ impl<'p> Scope<'_, 'p> {
 
     // An array's element.
     fn element(self, name: &Name, at: i32) -> Answer<'p>
-        ensures { seen_answer result ≡ element_at ((look_of self.entry).row name.now) at }
+        ensures { seen_answer result ≡ element_at ((look_of self.entry).elements name.now) at }
     {
         if at < 0 {
             return Err(Trap::Index);
         }
-        let Some(row) = self.rows.get(&name) else {
+        let Some(elements) = self.arrays.get(&name) else {
             return Err(Trap::Index);
         };
-        match row.get(at as usize) {
+        match elements.get(at as usize) {
             Some(element) => Ok(Value::Num(*element)),
             None => Err(Trap::Index),
         }

@@ -1,11 +1,11 @@
 //! The globals at the start of a run. Of several with one name the first counts.
 
 ghost use Rattle.std.specs.Prelude.{◌≡◌, IfOk, List, ℕ};
-ghost use Rattle.c_lang.specs.Programs.{global_named, initial_value, initial_row, shape_value, shape_row};
-ghost use Rattle.plain_run.specs.Code.Names.{seen_values, seen_rows};
+ghost use Rattle.c_lang.specs.Programs.{global_named, initial_value, initial_elements, shape_value, shape_elements};
+ghost use Rattle.plain_run.specs.Code.Names.{seen_values, seen_arrays};
 ghost use Rattle.plain_run.specs.Values.{seen_value};
 
-use crate::names::{Rows, Values};
+use crate::names::{Arrays, Values};
 use crate::value::Value;
 use c_lang::{GlobalVar, Shape};
 use indexmap::IndexMap;
@@ -23,8 +23,8 @@ fn shape_value(shape: &Shape) -> Value<'_>
     }
 }
 
-fn shape_row(alloc: Global, shape: &Shape) -> Result<Vec<i32>, AllocError>
-    ensures { IfOk result (λ row. row.items ≡ shape_row shape.now) }
+fn shape_elements(alloc: Global, shape: &Shape) -> Result<Vec<i32>, AllocError>
+    ensures { IfOk result (λ elements. elements.items ≡ shape_elements shape.now) }
 {
     match shape {
         Shape::Arr(elements) => Vec::from_slice(alloc, elements.as_slice()),
@@ -48,17 +48,17 @@ pub(crate) fn initial_values(alloc: Global, globals: &[GlobalVar]) -> Result<Val
 }
 
 /// The elements of arrays.
-pub(crate) fn initial_rows(alloc: Global, globals: &[GlobalVar]) -> Result<Rows<'_>, AllocError>
-    ensures { IfOk result (λ rows. (x : List ℕ) →
-        seen_rows rows.entries x ≡ initial_row (global_named globals.now x)) }
+pub(crate) fn initial_arrays(alloc: Global, globals: &[GlobalVar]) -> Result<Arrays<'_>, AllocError>
+    ensures { IfOk result (λ arrays. (x : List ℕ) →
+        seen_arrays arrays.entries x ≡ initial_elements (global_named globals.now x)) }
 {
-    let mut rows = IndexMap::new(alloc);
+    let mut arrays = IndexMap::new(alloc);
     let mut left = globals.len();
     while left > 0 {
         left -= 1;
         let global = &globals[left];
-        let row = shape_row(alloc, &global.shape)?;
-        rows.insert(&global.name, row)?;
+        let elements = shape_elements(alloc, &global.shape)?;
+        arrays.insert(&global.name, elements)?;
     }
-    Ok(rows)
+    Ok(arrays)
 }

@@ -10,8 +10,8 @@ use crate::call::frame_of;
 use crate::eval::Scope;
 use crate::frame::{Frame, drop_first, enter_body, enter_loop, first, leave_loop};
 use crate::indexed::IndexedProgram;
-use crate::initial::{initial_rows, initial_values};
-use crate::names::{Rows, Values, store, store_element};
+use crate::initial::{initial_arrays, initial_values};
+use crate::names::{Arrays, Values, store, store_element};
 use crate::step::{RunError, Step};
 use crate::value::Value;
 use c_lang::{Dest, Event, Expr, FRAME_LIMIT, Name, Pos, Program, Stmt, Trap};
@@ -27,7 +27,7 @@ use std::mem;
 pub struct Machine<'p> {
     program: IndexedProgram<'p>,
     values: Values<'p>,
-    rows: Rows<'p>,
+    arrays: Arrays<'p>,
     top: Frame<'p>,
     below: Vec<Frame<'p>>,
     over: bool,
@@ -47,7 +47,7 @@ impl<'p> Machine<'p> {
         Scope {
             locals: &self.top.locals,
             values: &self.values,
-            rows: &self.rows,
+            arrays: &self.arrays,
         }
     }
 
@@ -163,7 +163,7 @@ impl<'p> Machine<'p> {
             (spec.Store_element array.entry.now at element pos) a (Ok result) self.new a }
         ensures program { program_of self.new ≡ program_of self.old }
     {
-        if !store_element(&mut self.rows, array, at, element) {
+        if !store_element(&mut self.arrays, array, at, element) {
             return self.fault(Trap::Index, pos);
         }
         drop_first(&mut self.top.rest);
@@ -327,13 +327,13 @@ impl<'p> Machine<'p> {
         let indexed = IndexedProgram::new(alloc, program)?;
         let globals = program.globals.as_slice();
         let values = initial_values(alloc, globals)?;
-        let rows = initial_rows(alloc, globals)?;
+        let arrays = initial_arrays(alloc, globals)?;
         let main = Name::new(alloc, b"main")?;
         let top = frame_of(alloc, indexed.func(&main), &[], None)?;
         Ok(Machine {
             program: indexed,
             values,
-            rows,
+            arrays,
             top,
             below: Vec::new(alloc),
             over: false,

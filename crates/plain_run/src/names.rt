@@ -1,7 +1,7 @@
 //! Tables of names.
 
 ghost use Rattle.std.specs.Prelude.{◌≡◌, false, if◌then◌else◌, OnOk, OnErr};
-ghost use Rattle.plain_run.specs.Steps.{row_with};
+ghost use Rattle.plain_run.specs.Steps.{elements_with};
 ghost use Rattle.plain_run.specs.Code.Stored.{Stores, StoresElement};
 
 use crate::value::Value;
@@ -13,7 +13,7 @@ use std::alloc::AllocError;
 pub type Values<'p> = IndexMap<&'p Name, Value<'p>>;
 
 /// The elements of arrays.
-pub type Rows<'p> = IndexMap<&'p Name, Vec<i32>>;
+pub type Arrays<'p> = IndexMap<&'p Name, Vec<i32>>;
 
 // Stores a value in a local where the frame on top has the name, else in a global. After an error
 // both are as before.
@@ -45,28 +45,33 @@ pub(crate) fn store<'p>(
 }
 
 // Writes an element where the index is within the bounds, and says whether it is.
-fn set_element(row: &mut Vec<i32>, at: i32, element: i32) -> bool
-    ensures within { row_with row.old.items at element ≡
-        (if result then Some row.new.items else None) }
-    ensures outside { result ≡ false → row.new.items ≡ row.old.items }
+fn set_element(elements: &mut Vec<i32>, at: i32, element: i32) -> bool
+    ensures within { elements_with elements.old.items at element ≡
+        (if result then Some elements.new.items else None) }
+    ensures outside { result ≡ false → elements.new.items ≡ elements.old.items }
 {
     if at < 0 {
         return false;
     }
     let at = at as usize;
-    if at >= row.len() {
+    if at >= elements.len() {
         return false;
     }
-    row[at] = element;
+    elements[at] = element;
     true
 }
 
-// The same for an array's row.
-pub(crate) fn store_element<'p>(rows: &mut Rows<'p>, array: &'p Name, at: i32, element: i32) -> bool
-    ensures { StoresElement rows.old.entries array.entry.now at element result rows.new.entries }
+// The same for an array's elements.
+pub(crate) fn store_element<'p>(
+    arrays: &mut Arrays<'p>,
+    array: &'p Name,
+    at: i32,
+    element: i32,
+) -> bool
+    ensures { StoresElement arrays.old.entries array.entry.now at element result arrays.new.entries }
 {
-    match rows.get_mut(&array) {
-        Some(row) => set_element(row, at, element),
+    match arrays.get_mut(&array) {
+        Some(elements) => set_element(elements, at, element),
         None => false,
     }
 }

@@ -1,12 +1,17 @@
 //! Programs by their texts, and answers as they are printed.
 
+ghost use Rattle.std.specs.Prelude.{IfOk};
+ghost use Rattle.c_grammar.specs.Written.{IsWritten};
+
 use c_lang::{Fail, Program, Unit, height_limit};
 use c_lexer::lex;
 use c_parser::parse;
 use c_types::{Typed, check};
 use std::alloc::{AllocError, Global};
 
-pub fn parsed(alloc: Global, unit: Unit, text: &[u8]) -> Result<Program, Fail> {
+pub fn parsed(alloc: Global, unit: Unit, text: &[u8]) -> Result<Program, Fail>
+    ensures { IfOk result (IsWritten unit) }
+{
     let tokens = lex(alloc, unit, text)?;
     parse(alloc, unit, height_limit(unit), &tokens)
 }

@@ -113,8 +113,9 @@ pub fn points(alloc: Global, old: &[u8], client: &[u8], list: &str) -> Result<St
     Ok(shown(alloc, points_of(alloc, old, client, Some(&numbers)))?)
 }
 
-fn checked(alloc: Global, old: &Typed, new: &Typed, program: Program) -> Result<String, Fail> {
+fn checked(alloc: Global, old: &Typed, new: &Typed, text: &[u8]) -> Result<String, Fail> {
     let links = link(alloc, old, new)?;
+    let program = parsed(alloc, Unit::Xform, text)?;
     let xform = check_xform(alloc, old, new, &links, program)?;
     Ok(format!(in alloc; "transformer {}", xform.program().funcs.len())?)
 }
@@ -122,7 +123,7 @@ fn checked(alloc: Global, old: &Typed, new: &Typed, program: Program) -> Result<
 fn transformer(alloc: Global, old: &[u8], new: &[u8], text: &[u8]) -> Result<String, Fail> {
     let old = typed(alloc, Unit::Old, old)?;
     let new = typed(alloc, Unit::New, new)?;
-    checked(alloc, &old, &new, parsed(alloc, Unit::Xform, text)?)
+    checked(alloc, &old, &new, text)
 }
 
 /// How many functions a transformer of the two versions has.

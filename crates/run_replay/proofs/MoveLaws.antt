@@ -51,9 +51,9 @@ module _ {F G O : Type 0} (N : Access F G O) where
   with_ends (Ok x) p go ends = ends x
   with_ends (Err t) p go ends = tt
 
-  row_ends : (row : Option (List ℤ)) (p : Pos) (go : List ℤ → Move (Config F G O)) → ((r : List ℤ) → EndsRightly (go r)) → EndsRightly (steps.with_row N row p go)
-  row_ends (Some row) p go ends = ends row
-  row_ends None p go ends = tt
+  elements_end : (elements : Option (List ℤ)) (p : Pos) (go : List ℤ → Move (Config F G O)) → ((r : List ℤ) → EndsRightly (go r)) → EndsRightly (steps.with_elements N elements p go)
+  elements_end (Some elements) p go ends = ends elements
+  elements_end None p go ends = tt
 
   handed_ends : (g : G) (d : Dest) (v : Value F) (fs : List (Frame F O)) → EndsRightly (steps.handed N g d v fs)
   handed_ends g d v [] = tt
@@ -79,7 +79,7 @@ module _ {F G O : Type 0} (N : Access F G O) where
     act_ends g f fs s (one.Set p d e) = with_ends (steps.value_of N g f e) p _ (λ v. stored_live g f fs d v)
     act_ends g f fs s (one.SetElem p a i e) =
         with_ends (steps.value_of N g f i) p _ (λ at. with_ends (steps.value_of N g f e) p _ (λ v.
-        row_ends (steps.row_with (N.row f.origin g a) (number at) (number v)) p _ (λ row. tt)))
+        elements_end (steps.elements_with (N.elements f.origin g a) (number at) (number v)) p _ (λ elements. tt)))
     act_ends g f fs s (one.Call p d h es) = with_ends (steps.values_of N g f es) p _ (λ vs. tt)
     act_ends g f fs s (one.CallBy p d x es) =
         with_ends (steps.values_of N g f es) p _ (λ vs. called_ends ((steps.look N g f).value x) g f fs vs d p)

@@ -1,5 +1,5 @@
 -- Conditions in their order, each with its refusal.
-use Rattle.std.specs.Prelude.{⊤, ◌≡◌, ℕ, None, Result, MatchResult, List, [], ◌∷◌, ◌⊎◌}
+use Rattle.std.specs.Prelude.{⊤, ◌≡◌, ℕ, Result, MatchResult, List, [], ◌∷◌, ◌⊎◌}
 use Rattle.c_lang.specs.Refusals.{refused_at}
 use Rattle.c_lang.specs.Units.{at}
 use Rattle.c_lang.specs.declared.unit.Unit.{Unit}

@@ -1,5 +1,5 @@
 -- The status of each name is that of its two declarations, and says where it stands.
-use Rattle.std.specs.Prelude.{◌≡◌, ℕ, Bool, true, false, cond, ◌==◌, if◌then◌else◌, List, [], ◌∷◌, map, length, Option, Some, None, is_some, not, ◌&&◌, Result, IfOk}
+use Rattle.std.specs.Prelude.{◌≡◌, Bool, true, false, cond, if◌then◌else◌, List, [], ◌∷◌, map, Option, Some, None, is_some, not, ◌&&◌, Result, IfOk}
 use Rattle.std.specs.declared.alloc.AllocError.{AllocError}
 use Rattle.std.proofs.Common.{refl, sym, ap, ap₂, subst, ◌∙◌}
 use Rattle.std.specs.Str.{bytes_eq}
@@ -7,20 +7,19 @@ use Rattle.std.specs.Option.{option_map}
 use Rattle.std.proofs.lemmas.Slice.Eq.{bytes_eq-Decides}
 use Rattle.c_lang.specs.Names.{Bytes}
 use Rattle.c_lang.specs.Programs.{global_named, func_named}
-use Rattle.c_lang.specs.Kinds.{same_kinds, same_result}
-use Rattle.version_names.specs.Links.{same_shape, same_head, kinds_of, both_alike, part, is_shared_cell, cell_part, code_part}
-use Rattle.c_lang.specs.declared.stmt.Kind.{Kind}
+use Rattle.version_names.specs.Links.{same_shape, same_head, both_alike, part, cell_part, code_part}
 use Rattle.c_lang.specs.declared.program.Shape.{Shape}
 use Rattle.c_lang.specs.declared.program.Shape.TheVariants as shape
 use Rattle.c_lang.specs.declared.program.GlobalVar.{GlobalVar}
 use Rattle.c_lang.specs.declared.program.Func.{Func}
 use Rattle.c_lang.specs.declared.program.Program.{Program}
-use Rattle.version_names.specs.Code.Declarations.{what_of_shape, same_what, kind_of, declared_global, declared_func, declared_as}
+use Rattle.c_types.specs.Functions.{kinds_of}
+use Rattle.version_names.specs.Code.Declarations.{what_of_shape, same_what, declared_global, declared_func, declared_as}
 use Rattle.version_names.specs.Parts.{version_of, part_at, part_of, part_by, is_changed_cell, changed_among, is_changed, changed_by, entries_of, IsLinked}
 use Rattle.version_names.specs.Code.Statuses.{with_whats, status_of_new, with_new, with_old, statuses_of}
 use Rattle.version_names.specs.Code.Tables.{found, added}
 use Rattle.version_names.specs.declared.declared.What.{What}
-use Rattle.version_names.specs.declared.declared.What.TheVariants.{Number, Array, Pointer, Code}
+use Rattle.version_names.specs.declared.declared.What.TheVariants.{Code}
 use Rattle.version_names.specs.declared.declared.Declared.{Declared}
 use Rattle.version_names.specs.declared.links.Links.{Links}
 use Rattle.version_names.specs.declared.part.Version.{Version}
@@ -28,7 +27,7 @@ use Rattle.version_names.specs.declared.part.Version.TheVariants as v
 use Rattle.version_names.specs.declared.part.Sort2.{Sort2}
 use Rattle.version_names.specs.declared.part.Sort2.TheVariants as sort
 use Rattle.version_names.specs.declared.status.Status.{Status}
-use Rattle.version_names.specs.declared.status.Status.TheVariants.{Shared, Changed, Removed, Added}
+use Rattle.version_names.specs.declared.status.Status.TheVariants.{Shared, Changed, Removed}
 use Rattle.version_names.proofs.TableLaws.{or_else, none_else, found-added}
 
 -- ---- the tables
@@ -156,7 +155,7 @@ global-declared (g ∷ gs) x = by_test (bytes_eq g.name x) (global-declared gs x
     by_test false h = h
 
 abbrev what_of_func : Func → What
-what_of_func f = Code (map kind_of f.params) f.gives
+what_of_func f = Code (kinds_of f.params) f.gives
 
 func-declared : (fs : List Func) (x : Bytes) → declared_as (map declared_func fs) x ≡ option_map what_of_func (func_named fs x)
 func-declared [] x = refl

@@ -1,12 +1,12 @@
 -- How the two versions are linked by name.
-use Rattle.std.specs.Prelude.{Bool, true, false, ◌&&◌, ◌==◌, if◌then◌else◌, List, length, map, Option, Some, is_some}
+use Rattle.std.specs.Prelude.{Bool, true, false, ◌&&◌, ◌==◌, if◌then◌else◌, length, Option, Some, is_some}
 use Rattle.c_lang.specs.Names.{Bytes}
 use Rattle.c_lang.specs.Kinds.{same_kinds, same_result}
+use Rattle.c_types.specs.Functions.{kinds_of}
 use Rattle.c_lang.specs.Programs.{global_named, func_named}
 use Rattle.version_names.specs.Version.{Version}
 use Rattle.version_names.specs.Version as version
 use Rattle.version_names.specs.Home.{Home, Both, Old, New, Unlinked}
-use Rattle.c_lang.specs.declared.stmt.Kind.{Kind}
 use Rattle.c_lang.specs.declared.program.Shape.{Shape}
 use Rattle.c_lang.specs.declared.program.Shape.TheVariants as shape
 use Rattle.c_lang.specs.declared.program.GlobalVar.{GlobalVar}
@@ -20,12 +20,9 @@ same_shape (shape.Arr ys) (shape.Arr zs) = length ys == length zs
 same_shape (shape.Fp m f) (shape.Fp n g) = m == n
 same_shape _ _ = false
 
-abbrev pub kinds_of : Func → List Kind
-kinds_of f = map (λ (p : Kind × Bytes). p.0) f.params
-
 -- the same kinds of parameters, and both with a result or both without
 abbrev pub same_head : Func → Func → Bool
-same_head f g = same_kinds (kinds_of f) (kinds_of g) && same_result f.gives g.gives
+same_head f g = same_kinds (kinds_of f.params) (kinds_of g.params) && same_result f.gives g.gives
 
 -- a name is shared where both versions have it alike
 abbrev pub both_alike : {X : Type 0} → (X → X → Bool) → Option X → Option X → Bool

@@ -1,5 +1,5 @@
 -- Where a version's names stand, and which globals changed.
-use Rattle.std.specs.Prelude.{◌≡◌, ℕ, Bool, true, false, not, ◌&&◌, if◌then◌else◌, List, [], ◌∷◌, Option, Some, None, is_some}
+use Rattle.std.specs.Prelude.{◌≡◌, Bool, true, false, not, ◌&&◌, if◌then◌else◌, List, [], ◌∷◌, Option, Some, None, is_some}
 use Rattle.c_lang.specs.Names.{Bytes}
 use Rattle.version_names.specs.Version as version
 use Rattle.version_names.specs.Home.{Home, Both, Old, New, Xform, Client, Unlinked}

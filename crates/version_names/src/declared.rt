@@ -4,6 +4,7 @@ ghost use Rattle.std.specs.Prelude.{◌≡◌, IfOk, map};
 ghost use Rattle.version_names.specs.Code.Declarations as spec;
 
 use c_lang::{Func, GlobalVar, Kind, Name, Shape, same_kinds, same_result};
+use c_types::functions::kinds_of;
 use sqlite_items::Items;
 use std::alloc::{AllocError, Global};
 
@@ -80,16 +81,6 @@ pub fn declared_globals(alloc: Global, globals: &[GlobalVar]) -> Result<Vec<Decl
         })?;
     }
     Ok(all)
-}
-
-fn kinds_of(alloc: Global, params: &[(Kind, Name)]) -> Result<Items<Kind>, AllocError>
-    ensures { IfOk result (λ kinds. kinds ≡ map spec.kind_of params.now) }
-{
-    let mut kinds = Vec::new(alloc);
-    for param in params {
-        kinds.push(param.0)?;
-    }
-    Ok(Items::from_vec(kinds))
 }
 
 /// The functions. The only error is want of memory.

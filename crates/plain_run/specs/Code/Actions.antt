@@ -7,7 +7,7 @@ use Rattle.c_lang.specs.Evaluation.{Look, ev}
 use Rattle.plain_run.specs.Moves.{Move, Goes, Asks}
 use Rattle.plain_run.specs.PlainRun.{Store, PlainFrame, PlainConfig, plain_access}
 use Rattle.plain_run.specs.Steps as steps
-use Rattle.plain_run.specs.Steps.{Does, Mark, Live, after_mark, row_with, given}
+use Rattle.plain_run.specs.Steps.{Does, Mark, Live, after_mark, elements_with, given}
 use Rattle.c_lang.specs.Trees.{expression_of}
 use Rattle.c_lang.specs.Values.{Value, Num, Code, Answer, number, is_zero}
 use Rattle.c_lang.specs.declared.event.Trap.{Trap}
@@ -65,7 +65,7 @@ module _ (P : Program) (g : Store) (f : PlainFrame) (fs : List PlainFrame) where
   done Leave = Goes [] (Live g (record f { items = after_mark f.items }) fs)
   done (Store_value d v) = Goes [] (steps.stored (plain_access P) g f fs d v)
   done (Store_element a at z p) =
-      steps.with_row (plain_access P) (row_with (g.rows a) at z) p (λ row. Goes [] (Live ((plain_access P).put_row f.origin a row g) f fs))
+      steps.with_elements (plain_access P) (elements_with (g.arrays a) at z) p (λ elements. Goes [] (Live ((plain_access P).put_elements f.origin a elements g) f fs))
   done (Call callee es d p) =
       steps.with (plain_access P) (steps.values_of (plain_access P) g f es) p (λ vs. steps.by_pointer (plain_access P) callee g f fs vs d p)
   done (Return v) = steps.handed (plain_access P) g f.dest (given (plain_access P) f.gives v) fs

@@ -25,9 +25,9 @@ value_or_zero (Some v) = seen_value v
 abbrev pub seen_values : List (Bor Bytes × Value) → Bytes → spec.Value Bytes
 seen_values entries x = value_or_zero (found entries x)
 
-abbrev pub row_or_empty : Option (Vec ℤ Global) → List ℤ
-row_or_empty None = []
-row_or_empty (Some row) = row.items
+abbrev pub elements_or_none : Option (Vec ℤ Global) → List ℤ
+elements_or_none None = []
+elements_or_none (Some elements) = elements.items
 
-abbrev pub seen_rows : List (Bor Bytes × Vec ℤ Global) → Bytes → List ℤ
-seen_rows entries x = row_or_empty (found entries x)
+abbrev pub seen_arrays : List (Bor Bytes × Vec ℤ Global) → Bytes → List ℤ
+seen_arrays entries x = elements_or_none (found entries x)

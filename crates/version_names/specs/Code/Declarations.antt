@@ -1,9 +1,9 @@
 -- The names that a version declares, each with what the other version's declaration is compared with.
-use Rattle.std.specs.Prelude.{ℕ, Bool, true, false, ◌&&◌, ◌==◌, if◌then◌else◌, List, [], ◌∷◌, length, map, Option, Some, None}
+use Rattle.std.specs.Prelude.{Bool, true, false, ◌&&◌, ◌==◌, if◌then◌else◌, List, [], ◌∷◌, length, Option, Some, None}
 use Rattle.std.specs.Str.{bytes_eq}
 use Rattle.c_lang.specs.Names.{Bytes}
 use Rattle.c_lang.specs.Kinds.{same_kinds, same_result}
-use Rattle.c_lang.specs.declared.stmt.Kind.{Kind}
+use Rattle.c_types.specs.Functions.{kinds_of}
 use Rattle.c_lang.specs.declared.program.Shape.{Shape}
 use Rattle.c_lang.specs.declared.program.Shape.TheVariants as shape
 use Rattle.c_lang.specs.declared.program.GlobalVar.{GlobalVar}
@@ -28,11 +28,8 @@ same_what _ _ = false
 abbrev pub declared_global : GlobalVar → Declared
 declared_global g = record { name = g.name; what = what_of_shape g.shape }
 
-abbrev pub kind_of : Kind × Bytes → Kind
-kind_of p = p.0
-
 abbrev pub declared_func : Func → Declared
-declared_func f = record { name = f.name; what = Code (map kind_of f.params) f.gives }
+declared_func f = record { name = f.name; what = Code (kinds_of f.params) f.gives }
 
 -- of several with one name the first counts
 abbrev pub declared_as : List Declared → Bytes → Option What

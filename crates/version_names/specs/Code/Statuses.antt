@@ -1,5 +1,5 @@
 -- How the statuses of all names are gathered.
-use Rattle.std.specs.Prelude.{Bool, true, false, if◌then◌else◌, List, [], ◌∷◌, Option, Some, None}
+use Rattle.std.specs.Prelude.{if◌then◌else◌, List, [], ◌∷◌, Option, Some, None}
 use Rattle.c_lang.specs.Names.{Bytes}
 use Rattle.version_names.specs.Code.Declarations.{same_what}
 use Rattle.version_names.specs.Code.Tables.{found, added}

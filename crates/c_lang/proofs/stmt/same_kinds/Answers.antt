@@ -1,4 +1,4 @@
-use Rattle.std.proofs.Common.{◌≡◌, ℕ, ◌+◌, ◌<◌, ◌∷◌, get_or, sym, ◌∙◌, ap, false, List, [], drop, length, arith}
+use Rattle.std.proofs.Common.{◌≡◌, ℕ, ◌+◌, ◌<◌, ◌∷◌, get_or, sym, ◌∙◌, ap, false, List, drop, length, arith}
 use Rattle.std.proofs.lemmas.List.{at_drop_more, nil_from_length}
 use Rattle.c_lang.specs.Kinds as spec
 use Rattle.c_lang.specs.declared.stmt.Kind.{Kind}

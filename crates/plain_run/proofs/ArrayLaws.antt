@@ -1,0 +1,28 @@
+-- An element is written in a table of arrays.
+use Rattle.std.proofs.Common.{◌≡◌, ℤ, Bool, true, false, if◌then◌else◌, Vec, Global, Some, None, refl, sym, ap, ◌∙◌}
+use Rattle.std.specs.Map.{set_value}
+use Rattle.std.specs.Str.{bytes_eq}
+use Rattle.c_lang.specs.Names.{Bytes}
+use Rattle.plain_run.specs.Steps.{updated, elements_with}
+use Rattle.plain_run.specs.Code.Names.{found, elements_or_none, seen_arrays}
+use Rattle.plain_run.specs.Code.Stored.{Arrays, StoresElement}
+use Rattle.plain_run.proofs.StoreLaws.{all_names}
+use Rattle.plain_run.proofs.TableLaws.{at_test, found-set, from_true}
+
+module _ (old new : Arrays) (a : Bytes) (elements elements' : Vec ℤ Global) (there : found old a ≡ Some elements) (is : new ≡ set_value (λ n. bytes_eq a n.now) old elements') where
+  array_there : seen_arrays old a ≡ elements.items
+  array_there = ap elements_or_none there
+
+  seen_arrays-set : seen_arrays new ≡ updated (seen_arrays old) a elements'.items
+  seen_arrays-set = all_names _ _ (λ x. ap (λ entries. seen_arrays entries x) is ∙ ap elements_or_none (found-set old a elements' elements x there)
+      ∙ at_test elements_or_none (bytes_eq a x) elements' (found old x))
+
+  as_before : (x : Bytes) (b : Bool) → bytes_eq a x ≡ b → elements'.items ≡ elements.items → (if b then elements'.items else seen_arrays old x) ≡ seen_arrays old x
+  as_before x true p same = same ∙ sym array_there ∙ ap (seen_arrays old) (from_true a x p)
+  as_before x false p same = refl
+
+  pub stores_element : (at z : ℤ) (written : Bool) → elements_with elements.items at z ≡ (if written then Some elements'.items else None)
+      → (written ≡ false → elements'.items ≡ elements.items) → StoresElement old a at z written new
+  stores_element at z true within outside = (elements'.items, ap (λ r. elements_with r at z) array_there ∙ within, seen_arrays-set)
+  stores_element at z false within outside =
+      (ap (λ r. elements_with r at z) array_there ∙ within, seen_arrays-set ∙ all_names _ _ (λ x. as_before x (bytes_eq a x) refl (outside refl)))

@@ -1,0 +1,11 @@
+mod GivenWords
+mod Walks
+mod TreeFits
+mod Scopes
+mod StatementFits
+mod ProgramFits
+mod TypedLocals
+mod WrittenLaws
+mod NameLaws
+mod PlainWalks
+mod KeptLaws

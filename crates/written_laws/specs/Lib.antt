@@ -1,0 +1,5 @@
+pub mod Walk
+pub mod Breaks
+pub mod Destinations
+pub mod Literals
+pub mod SourceNames
