@@ -16,11 +16,8 @@ use Rattle.c_lang.specs.declared.stmt.Dest.TheVariants.{Nowhere, Into, Fresh}
 use Rattle.c_lang.specs.declared.program.GlobalVar.{GlobalVar}
 use Rattle.c_lang.specs.declared.program.Func.{Func}
 use Rattle.c_lang.specs.declared.program.Program.{Program}
-use Rattle.c_types.specs.declared.means.Means.{Means}
-use Rattle.c_types.specs.declared.scope.Scope.{Scope}
-use Rattle.c_types.specs.declared.scope.Block.{Block}
-use Rattle.c_types.specs.Names.{Entries, found, added}
-use Rattle.c_types.specs.Scopes.{in_scope}
+use Rattle.c_types.specs.Names.{Means, Entries, found, added}
+use Rattle.c_types.specs.Scopes.{Scope, Block, in_scope}
 use Rattle.c_types.specs.Statements.{scope_after, block_in, entered, after_block}
 use Rattle.c_types.specs.Functions.{scope_of, with_param, body_scope}
 use Rattle.c_types.specs.Programs.{with_global, with_globals, with_func, with_funcs, outside_of}
