@@ -57,6 +57,34 @@ fn body_start(
     Ok(scope)
 }
 
+fn with_body<'a>(
+    alloc: Global,
+    unit: Unit,
+    deep: u32,
+    parts: Parts,
+    pos: Pos,
+    gives: bool,
+    name: Name,
+    params: Items<(Kind, Name)>,
+    early: Items<Refusal>,
+    tokens: &'a [Token],
+) -> Result<(Parts, &'a [Token]), ParseError>
+    ensures read { Gives (λ x. (x.0, x.1.now)) result (spec.with_body unit deep parts pos gives name params early tokens.now) }
+    ensures rest { IfOk result (λ x. length x.1.now ≤ length tokens.now) }
+{
+    let scope = body_start(alloc, params.as_slice(), early)?;
+    let body = items(alloc, unit, deep, false, scope, tokens)?;
+    let scope = body.scope;
+    let func = Func {
+        name,
+        params,
+        gives,
+        body: body.stmts,
+        pos,
+    };
+    Ok((parts.with_func(func, scope.early)?, body.rest))
+}
+
 #[tactic(auto, unfolding(crate::specs::Code::UnitReading::function_at))]
 fn function_at<'a>(
     alloc: Global,
@@ -72,22 +100,12 @@ fn function_at<'a>(
     ensures read { Gives (λ x. (x.0, x.1.now)) result (spec.function_at unit deep parts pos gives name params tokens.now) }
     ensures rest { IfOk result (λ x. length x.1.now ≤ length tokens.now) }
 {
-    let named = named_params(
-        alloc,
-        params.list.as_slice(),
-        tokens.len().saturating_add(1),
-    )?;
-    let scope = body_start(alloc, named.as_slice(), params.early)?;
-    let body = items(alloc, unit, deep, false, scope, tokens)?;
-    let scope = body.scope;
-    let func = Func {
-        name,
-        params: named,
-        gives,
-        body: body.stmts,
-        pos,
-    };
-    Ok((parts.with_func(func, scope.early)?, body.rest))
+    let left = tokens.len().saturating_add(1);
+    let named = named_params(alloc, params.list.as_slice(), left)?;
+    let early = params.early;
+    with_body(
+        alloc, unit, deep, parts, pos, gives, name, named, early, tokens,
+    )
 }
 
 fn kinds_of(alloc: Global, params: &[Param]) -> Result<Items<Kind>, AllocError>

@@ -128,12 +128,14 @@ abbrev pub with_prototype : Parts → Pos → Bool → Bytes → Params → Part
 with_prototype a p gives x params = with_proto a (record { name = x; params = map (λ (y : Param). y.kind) params.list; gives = gives; pos = p }) params.early
 
 module _ (u : Unit) (d : ℕ) where
+  abbrev pub with_body : Parts → Pos → Bool → Bytes → List (Kind × Bytes) → List Refusal → List Token → Option (Parts × List Token)
+  with_body a p gives x named early ts =
+      items (stmt u d) d (length ts + 1) false (nothing (body_start named early) ts) >>= λ r.
+      Some (with_func a (record { name = x; params = named; gives = gives; body = r.stmts; pos = p }) r.scope.early, r.rest)
+
   -- behind the `{`
   unfoldable pub function_at : Parts → Pos → Bool → Bytes → Params → List Token → Option (Parts × List Token)
-  function_at a p gives x params ts = do
-    named ← named_params [] params.list
-    r ← items (stmt u d) d (length ts + 1) false (nothing (body_start named params.early) ts)
-    Some (with_func a (record { name = x; params = named; gives = gives; body = r.stmts; pos = p }) r.scope.early, r.rest)
+  function_at a p gives x params ts = named_params [] params.list >>= λ named. with_body a p gives x named params.early ts
 
   abbrev pub headed_by : Parts → Pos → Bool → Bytes → Params → Option (List Token) → Option (List Token) → Option (Parts × List Token)
   headed_by a p gives x params (Some rest) body = Some (with_prototype a p gives x params, rest)
