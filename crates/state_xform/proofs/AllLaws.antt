@@ -11,7 +11,7 @@ use Rattle.state_xform.specs.Elements.{sets_element_in}
 use Rattle.state_xform.specs.Transformers.{is_filled}
 use Rattle.state_xform.specs.Code.NameSets.{Names, has, IsCommon}
 use Rattle.state_xform.specs.Paths.{always_set}
-use Rattle.state_xform.specs.Code.Walk.{joined, walk, walk_all}
+use Rattle.state_xform.specs.Code.Walk.{Sets, joined, walk, walk_all}
 use Rattle.state_xform.specs.declared.always.PathNames.{PathNames}
 use Rattle.state_xform.proofs.NameLaws.{drop-next, one_added}
 use Rattle.state_xform.proofs.PathLaws.{always-set}
@@ -22,6 +22,11 @@ passed ys = reverse (map (λ y. y.now) ys)
 
 passed-more : (ys : List (Bor Stmt)) (y : Bor Stmt) → passed (ys ++ y ∷ []) ≡ y.now ∷ passed ys
 passed-more ys y = ap reverse (map-append (λ s. s.now) ys (y ∷ [])) ∙ reverse-append (map (λ s. s.now) ys) (y.now ∷ [])
+
+-- what is found of a statement and the rest, by what is found of the statement
+pub found-first : (first old new : PathNames) (one : Bytes → Sets) → IsFound new (λ x. joined (sets_at first x) (sets_at old x))
+    → IsFound first one → IsFound new (λ x. joined (one x) (sets_at old x))
+found-first first old new one is at x = is x ∙ ap (λ (s : Sets). joined s (sets_at old x)) (at x)
 
 pub found-more : (old new : PathNames) (ys : List (Bor Stmt)) (y : Bor Stmt)
     → IsFound new (λ x. joined (walk x (statement_of y.now)) (sets_at old x))

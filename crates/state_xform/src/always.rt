@@ -1,10 +1,10 @@
 //! The names that every path through a body sets, found in one walk.
 
-ghost use Rattle.std.specs.Prelude.{◌≡◌, IfOk, map, true};
+ghost use Rattle.std.specs.Prelude.{◌≡◌, IfOk, OnOk, map, true, false};
 ghost use Rattle.c_lang.specs.Names.{Bytes};
 ghost use Rattle.c_lang.specs.Trees.{statement_of, statements};
 ghost use Rattle.state_xform.specs.Code.AllNames.{IsFound, sets_at};
-ghost use Rattle.state_xform.specs.Code.NameSets.{has};
+ghost use Rattle.state_xform.specs.Code.NameSets.{has, IsUnion};
 ghost use Rattle.state_xform.specs.Paths.{always_set};
 ghost use Rattle.state_xform.specs.Code.Walk.{found, joined, either, is_set, walk, walk_all};
 
@@ -30,16 +30,33 @@ fn both<'p>(yes: PathNames<'p>, no: PathNames<'p>) -> PathNames<'p>
     }
 }
 
-// An assignment, and then the rest.
-fn assigned<'p>(dest: &'p Dest, mut rest: PathNames<'p>) -> Result<PathNames<'p>, AllocError>
-    ensures { IfOk result (λ names.
-        IsFound names (λ x. joined (found (is_set dest.entry.now x) true) (sets_at rest.entry x))) }
+// Where nothing is set and every path goes on.
+fn nothing_set<'p>(alloc: Global) -> PathNames<'p>
+    ensures { IsFound result (λ x. found false true) }
 {
-    if let Dest::Into(name) = dest {
-        rest.behind.add(name)?;
-        rest.returned.add(name)?;
+    PathNames {
+        behind: NameSet::empty(alloc),
+        returned: NameSet::every(alloc),
     }
-    Ok(rest)
+}
+
+fn assigned<'p>(alloc: Global, dest: &'p Dest) -> Result<PathNames<'p>, AllocError>
+    ensures { IfOk result (λ names. IsFound names (λ x. found (is_set dest.entry.now x) true)) }
+{
+    let mut names = nothing_set(alloc);
+    if let Dest::Into(name) = dest {
+        names.behind.add(name)?;
+    }
+    Ok(names)
+}
+
+// Adds names that are set before all these paths.
+fn add_before<'p>(rest: &mut PathNames<'p>, names: &NameSet<'p>) -> Result<(), AllocError>
+    ensures behind { OnOk result (IsUnion names.now rest.old.behind rest.new.behind) }
+    ensures returned { OnOk result (IsUnion names.now rest.old.returned rest.new.returned) }
+{
+    rest.behind.add_all(names)?;
+    rest.returned.add_all(names)
 }
 
 // One statement, and then the rest. Each operation goes over the names of the statement alone, so
@@ -48,8 +65,7 @@ fn followed<'p>(first: PathNames<'p>, mut rest: PathNames<'p>) -> Result<PathNam
     ensures { IfOk result (λ names.
         IsFound names (λ x. joined (sets_at first.entry x) (sets_at rest.entry x))) }
 {
-    rest.behind.add_all(&first.behind)?;
-    rest.returned.add_all(&first.behind)?;
+    add_before(&mut rest, &first.behind)?;
     Ok(PathNames {
         behind: rest.behind,
         returned: first.returned.common(rest.returned),
@@ -57,28 +73,22 @@ fn followed<'p>(first: PathNames<'p>, mut rest: PathNames<'p>) -> Result<PathNam
 }
 
 #[cycle(names)]
-fn names_at<'p>(
-    alloc: Global,
-    stmt: &'p Stmt,
-    rest: PathNames<'p>,
-) -> Result<PathNames<'p>, AllocError>
-    ensures { IfOk result (λ names.
-        IsFound names (λ x. joined (walk x (statement_of stmt.entry.now)) (sets_at rest.entry x))) }
+fn names_at<'p>(alloc: Global, stmt: &'p Stmt) -> Result<PathNames<'p>, AllocError>
+    ensures { IfOk result (λ names. IsFound names (λ x. walk x (statement_of stmt.entry.now))) }
 {
     match stmt {
-        Stmt::Set { dest, .. } => assigned(dest, rest),
+        Stmt::Set { dest, .. } => assigned(alloc, dest),
         Stmt::If { yes, no, .. } => {
             let yes = names_in(alloc, yes.as_slice())?;
             let no = names_in(alloc, no.as_slice())?;
-            followed(both(yes, no), rest)
+            Ok(both(yes, no))
         }
         Stmt::While { body, .. } => {
             let turn = names_in(alloc, body.as_slice())?;
-            let first = PathNames {
+            Ok(PathNames {
                 behind: NameSet::empty(alloc),
                 returned: turn.returned,
-            };
-            followed(first, rest)
+            })
         }
         Stmt::Return { .. } => Ok(PathNames {
             behind: NameSet::every(alloc),
@@ -88,7 +98,7 @@ fn names_at<'p>(
             behind: NameSet::every(alloc),
             returned: NameSet::every(alloc),
         }),
-        _ => Ok(rest),
+        _ => Ok(nothing_set(alloc)),
     }
 }
 
@@ -97,12 +107,10 @@ fn names_in<'p>(alloc: Global, stmts: &'p [Stmt]) -> Result<PathNames<'p>, Alloc
     ensures { IfOk result (λ names.
         IsFound names (λ x. walk_all x (statements (map statement_of stmts.entry.now)))) }
 {
-    let mut names = PathNames {
-        behind: NameSet::empty(alloc),
-        returned: NameSet::every(alloc),
-    };
+    let mut names = nothing_set(alloc);
     for stmt in stmts.iter().rev() {
-        names = names_at(alloc, stmt, names)?;
+        let first = names_at(alloc, stmt)?;
+        names = followed(first, names)?;
     }
     Ok(names)
 }
