@@ -9,7 +9,7 @@ use Rattle.c_lang.specs.declared.stmt.Kind.{Kind}
 use Rattle.c_lang.specs.declared.program.Func.{Func}
 use Rattle.c_lang.specs.declared.program.Program.{Program}
 use Rattle.c_types.specs.Plain.{PlainFunc, PlainProgram, plain_statement, plain_statements, plain_func, plain_program}
-use Rattle.written_laws.specs.Walk.{Context, told, told_all, in_loop, in_pick, behind, behind_all, start_of, Throughout, ThroughoutAll, body_of, InBodies}
+use Rattle.written_laws.specs.Walk.{Context, told, told_all, in_loop, in_pick, past, past_all, start_of, Throughout, ThroughoutAll, body_of, InBodies}
 
 mutual
   told_plain : (names : List Bytes) (s : Statement) → told names (plain_statement s) ≡ told names s
@@ -43,7 +43,7 @@ module _ (P : Context → Statement → Type 0) (forth : (at : Context) (s : Sta
   mutual
     to_plain : (at : Context) (s : Statement) → Throughout P at s → Throughout P at (plain_statement s)
     to_plain at (if_else p e xs ys) h =
-        (forth at (if_else p e xs ys) h.0, to_plain_all at xs h.1, subst (λ (ns : List Bytes). ThroughoutAll P (at_names at ns) (plain_statements ys)) (sym (told_all_plain at.declared xs)) (to_plain_all (behind_all at xs) ys h.2))
+        (forth at (if_else p e xs ys) h.0, to_plain_all at xs h.1, subst (λ (ns : List Bytes). ThroughoutAll P (at_names at ns) (plain_statements ys)) (sym (told_all_plain at.declared xs)) (to_plain_all (past_all at xs) ys h.2))
     to_plain at (while_loop p e xs) h = (forth at (while_loop p e xs) h.0, to_plain_all (in_loop at) xs h.1)
     to_plain at (pick p a b) h = (forth at (pick p a b) h.0, to_plain (in_pick at) a h.1, to_plain (in_pick at) b h.2)
     to_plain at (skip p) h = forth at (skip p) h
@@ -63,12 +63,12 @@ module _ (P : Context → Statement → Type 0) (forth : (at : Context) (s : Sta
     to_plain_all : (at : Context) (ss : Statements) → ThroughoutAll P at ss → ThroughoutAll P at (plain_statements ss)
     to_plain_all at none h = tt
     to_plain_all at (more s ss) h =
-        (to_plain at s h.0, subst (λ (ns : List Bytes). ThroughoutAll P (at_names at ns) (plain_statements ss)) (sym (told_plain at.declared s)) (to_plain_all (behind at s) ss h.1))
+        (to_plain at s h.0, subst (λ (ns : List Bytes). ThroughoutAll P (at_names at ns) (plain_statements ss)) (sym (told_plain at.declared s)) (to_plain_all (past at s) ss h.1))
 
   mutual
     of_plain : (at : Context) (s : Statement) → Throughout P at (plain_statement s) → Throughout P at s
     of_plain at (if_else p e xs ys) h =
-        (back at (if_else p e xs ys) h.0, of_plain_all at xs h.1, of_plain_all (behind_all at xs) ys (subst (λ (ns : List Bytes). ThroughoutAll P (at_names at ns) (plain_statements ys)) (told_all_plain at.declared xs) h.2))
+        (back at (if_else p e xs ys) h.0, of_plain_all at xs h.1, of_plain_all (past_all at xs) ys (subst (λ (ns : List Bytes). ThroughoutAll P (at_names at ns) (plain_statements ys)) (told_all_plain at.declared xs) h.2))
     of_plain at (while_loop p e xs) h = (back at (while_loop p e xs) h.0, of_plain_all (in_loop at) xs h.1)
     of_plain at (pick p a b) h = (back at (pick p a b) h.0, of_plain (in_pick at) a h.1, of_plain (in_pick at) b h.2)
     of_plain at (skip p) h = back at (skip p) h
@@ -88,7 +88,7 @@ module _ (P : Context → Statement → Type 0) (forth : (at : Context) (s : Sta
     of_plain_all : (at : Context) (ss : Statements) → ThroughoutAll P at (plain_statements ss) → ThroughoutAll P at ss
     of_plain_all at none h = tt
     of_plain_all at (more s ss) h =
-        (of_plain at s h.0, of_plain_all (behind at s) ss (subst (λ (ns : List Bytes). ThroughoutAll P (at_names at ns) (plain_statements ss)) (told_plain at.declared s) h.1))
+        (of_plain at s h.0, of_plain_all (past at s) ss (subst (λ (ns : List Bytes). ThroughoutAll P (at_names at ns) (plain_statements ss)) (told_plain at.declared s) h.1))
 
   abbrev Body : Func → Type 0
   Body f = ThroughoutAll P (start_of f) (body_of f.body)

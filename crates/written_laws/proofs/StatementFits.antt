@@ -22,7 +22,7 @@ use Rattle.c_grammar.specs.declared.right.Right.TheVariants as right
 use Rattle.c_grammar.specs.Scopes.{Scope, is_declared, declare, one_more, temporary}
 use Rattle.c_grammar.specs.Statements.{CondTree, cond_tokens, side_tokens, call_tokens, pointer_tokens, function_call_tokens, arity, OneTree, one_tokens, one_stmt, PickTree, pick_tokens, pick_stmt, Simple, simple_tokens, simple_scope, simple_stmts, IsSimple, Piece, Body, Pieces, tokens, body_tokens, pieces_tokens, IsPiece, IsBody, ArePieces, stmts, body_stmts, pieces_stmts, scope_after, body_scope, pieces_scope, exprs_of, right_of, call_of, call_pos, call_to, right_to, stored, set_stmts, set_scope}
 use Rattle.c_grammar.specs.Statements as tree
-use Rattle.written_laws.specs.Walk.{Context, with_dest, told, told_all, in_loop, in_pick, behind, behind_all, Throughout, ThroughoutAll, body_of}
+use Rattle.written_laws.specs.Walk.{Context, with_dest, told, told_all, in_loop, in_pick, past, past_all, Throughout, ThroughoutAll, body_of}
 use Rattle.written_laws.specs.Breaks.{IsNoStrayBreak}
 use Rattle.written_laws.specs.Destinations.{OfResult, IsLocal}
 use Rattle.written_laws.specs.Literals.{StatementHasInts}
@@ -40,7 +40,7 @@ pub record IsFit (u : Unit) (at : Context) (s : Statement) : Type 0 where
   pub ints : StatementHasInts at s
   pub words : StatementHasNames u at s
 
--- statements fit where they stand, and what is declared behind them is told by then
+-- statements fit where they stand, and what is declared past them is told by then
 pub record Fits (u : Unit) (at : Context) (xs : List Stmt) (after : Scope) : Type 0 where
   pub fits : ThroughoutAll (IsFit u) at (body_of xs)
   pub covers : Covers after (told_all at.declared (body_of xs))
@@ -55,7 +55,7 @@ one_fits {u} {at} {s} {after} t is fits covers = record {
   covers = subst (λ (t : Statement). Covers after (told at.declared t)) (sym is) covers;
 }
 
-both_fit : {u : Unit} (at : Context) (xs ys : List Stmt) (mid after : Scope) → Fits u at xs mid → Fits u (behind_all at (body_of xs)) ys after → Fits u at (xs ++ ys) after
+both_fit : {u : Unit} (at : Context) (xs ys : List Stmt) (mid after : Scope) → Fits u at xs mid → Fits u (past_all at (body_of xs)) ys after → Fits u at (xs ++ ys) after
 both_fit {u} at xs ys mid after a b = record {
   fits = throughout_append (IsFit u) at xs ys a.fits b.fits;
   covers = subst (λ (names : List Bytes). Covers after names) (sym (told_append at.declared xs ys)) b.covers;
@@ -105,7 +105,7 @@ after_stored : (u : Unit) (at : Context) (p : Pos) (sc : Scope) (r : Right) (s :
 after_stored u at p sc r s h covers last =
     let x = stored_fits u at p sc r h covers in
     both_fit at (stored p sc r).before (s ∷ []) (stored p sc r).scope (stored p sc r).scope x.before
-    (last (behind_all at (body_of (stored p sc r).before)) x.before.covers x.left)
+    (last (past_all at (body_of (stored p sc r).before)) x.before.covers x.left)
 
 -- to a name: at once where it is declared
 set_fits : (u : Unit) (at : Context) (p : Pos) (x : Bytes) (sc : Scope) (r : Right) → IsWord u x → RightFits u r → Covers sc at.declared → Fits u at (set_stmts p x sc r) (set_scope p x sc r)
@@ -199,7 +199,7 @@ mutual
       let split = fit_append u (cond_tokens c) (body_tokens b ++ (keyword else_key el ∷ body_tokens n)) h.1 in
       let bodies = fit_append u (body_tokens b) (keyword else_key el ∷ body_tokens n) split.1 in
       let body = body_fits u b at sc covers valid.1 bodies.0 in
-      let other = body_fits u n (behind_all at (body_of (body_stmts b sc))) (body_scope b sc) body.covers valid.3 bodies.1.1 in
+      let other = body_fits u n (past_all at (body_of (body_stmts b sc))) (body_scope b sc) body.covers valid.3 bodies.1.1 in
       let cond = condition_fits u c split.0 in
       one_fits (if_else at'.pos (expression_of (e.expr_of c.tree)) (body_of (body_stmts b sc)) (body_of (body_stmts n (body_scope b sc)))) (statement_of-If at'.pos (e.expr_of c.tree) (body_stmts b sc) (body_stmts n (body_scope b sc)))
       (record { breaks = tt; results = tt; ints = cond.ints; words = cond.words }, body.fits, other.fits) other.covers
@@ -220,4 +220,4 @@ mutual
       let split = fit_append u (tokens t) (pieces_tokens ts) h in
       let first = piece_fits u t true at sc covers valid.0 split.0 in
       both_fit at (stmts t sc) (pieces_stmts ts (scope_after t sc)) (scope_after t sc) (pieces_scope ts (scope_after t sc)) first
-      (pieces_fit u ts (behind_all at (body_of (stmts t sc))) (scope_after t sc) first.covers valid.1 split.1)
+      (pieces_fit u ts (past_all at (body_of (stmts t sc))) (scope_after t sc) first.covers valid.1 split.1)

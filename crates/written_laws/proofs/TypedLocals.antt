@@ -24,7 +24,7 @@ use Rattle.c_types.specs.Programs.{with_global, with_globals, with_func, with_fu
 use Rattle.c_types.specs.Typing.{IsDest, IsTypedStatement, AreTyped}
 use Rattle.c_types.specs.Types.{AreParams, IsTypedFunc, AreTypedFuncs, Types}
 use Rattle.c_types.proofs.FunctionLaws.{params_outside}
-use Rattle.written_laws.specs.Walk.{Context, with_dest, told, told_all, in_loop, behind, behind_all, start_of, Throughout, ThroughoutAll, body_of, InBodies}
+use Rattle.written_laws.specs.Walk.{Context, with_dest, told, told_all, in_loop, past, past_all, start_of, Throughout, ThroughoutAll, body_of, InBodies}
 use Rattle.written_laws.specs.Destinations.{OfResult}
 use Rattle.written_laws.proofs.Scopes.{same_bytes, names_in}
 
@@ -158,7 +158,7 @@ module _ (outside : Entries) where
         let k = dest_new block scope d e h.0 in record { says = record { free = free; declared = new; result = k }; names = dest_names at.declared d new k }
     statement_apart block scope at (if_else p a xs ys) e free new h =
         let first = all_apart (block_in scope) (entered scope xs) at xs e free new h.1 in
-        let second = all_apart (block_in scope) (entered (after_block scope xs) ys) (behind_all at xs) ys e free first.names h.2 in
+        let second = all_apart (block_in scope) (entered (after_block scope xs) ys) (past_all at xs) ys e free first.names h.2 in
         record { says = (record { free = free; declared = new; result = tt }, first.says, second.says); names = second.names }
     statement_apart block scope at (while_loop p a xs) e free new h =
         let body = all_apart (block_in scope) (entered scope xs) (in_loop at) xs e free new h.1 in
@@ -179,7 +179,7 @@ module _ (outside : Entries) where
     all_apart block scope at none e free new h = record { says = tt; names = new }
     all_apart block scope at (more s ss) e free new h =
         let first = statement_apart block scope at s e free new h.0 in
-        let rest = all_apart block (scope_after scope s) (behind at s) ss e free first.names h.1 in
+        let rest = all_apart block (scope_after scope s) (past at s) ss e free first.names h.1 in
         record { says = (first.says, rest.says); names = rest.names }
 
   params_new : (scope : Scope) (qs : List (Kind × Bytes)) → scope.outside ≡ outside → AreParams scope qs → AreNew outside (names_in qs)

@@ -9,7 +9,7 @@ use Rattle.c_lang.specs.declared.stmt.Dest.TheVariants.{Nowhere, Into, Fresh}
 use Rattle.c_lang.specs.declared.program.Func.{Func}
 use Rattle.c_lang.specs.declared.program.Program.{Program}
 
--- where a statement stands: in a loop, in a client's pick, and behind which parameters and locals of
+-- where a statement stands: in a loop, in a client's pick, and past which parameters and locals of
 -- its function's text, of blocks that have ended too
 pub record Context : Type 0 where
   pub in_loop : Bool
@@ -42,23 +42,23 @@ in_loop at = record at { in_loop = true }
 abbrev pub in_pick : Context → Context
 in_pick at = record at { in_pick = true }
 
-abbrev pub behind : Context → Statement → Context
-behind at s = record at { declared = told at.declared s }
+abbrev pub past : Context → Statement → Context
+past at s = record at { declared = told at.declared s }
 
-abbrev pub behind_all : Context → Statements → Context
-behind_all at ss = record at { declared = told_all at.declared ss }
+abbrev pub past_all : Context → Statements → Context
+past_all at ss = record at { declared = told_all at.declared ss }
 
 module _ (Says : Context → Statement → Type 0) where
   abbrev mutual
     pub Throughout : Context → Statement → Type 0
-    Throughout at (if_else p e a b) = Says at (if_else p e a b) × ThroughoutAll at a × ThroughoutAll (behind_all at a) b
+    Throughout at (if_else p e a b) = Says at (if_else p e a b) × ThroughoutAll at a × ThroughoutAll (past_all at a) b
     Throughout at (while_loop p e a) = Says at (while_loop p e a) × ThroughoutAll (in_loop at) a
     Throughout at (pick p a b) = Says at (pick p a b) × Throughout (in_pick at) a × Throughout (in_pick at) b
     Throughout at s = Says at s
 
     pub ThroughoutAll : Context → Statements → Type 0
     ThroughoutAll at none = ⊤
-    ThroughoutAll at (more s ss) = Throughout at s × ThroughoutAll (behind at s) ss
+    ThroughoutAll at (more s ss) = Throughout at s × ThroughoutAll (past at s) ss
 
 -- where a function's body begins
 abbrev pub start_of : Func → Context
