@@ -9,7 +9,8 @@ use Rattle.c_lang.specs.declared.stmt.Kind.{Kind}
 use Rattle.c_lang.specs.declared.program.Func.{Func}
 use Rattle.c_lang.specs.declared.program.Program.{Program}
 use Rattle.c_types.specs.Plain.{PlainFunc, PlainProgram, plain_statement, plain_statements, plain_func, plain_program}
-use Rattle.written_laws.specs.Walk.{Context, told, told_all, in_loop, in_pick, past, past_all, start_of, Throughout, ThroughoutAll, body_of, InBodies}
+use Rattle.written_laws.specs.Walk.{Context, told, told_all, in_loop, in_pick, past, past_all, start_of, Throughout, ThroughoutAll, InBodies}
+use Rattle.c_types.specs.Bodies.{body_of}
 
 mutual
   told_plain : (names : List Bytes) (s : Statement) → told names (plain_statement s) ≡ told names s

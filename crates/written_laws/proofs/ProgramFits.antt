@@ -21,7 +21,8 @@ use Rattle.c_grammar.specs.Units.{Parts, ParamTree, ParamsTree, HeadTree, param_
 use Rattle.c_grammar.specs.Units as tree
 use Rattle.c_grammar.specs.Grammar.{program_of}
 use Rattle.c_grammar.specs.Written.{IsWritten}
-use Rattle.written_laws.specs.Walk.{start_of, ThroughoutAll, body_of}
+use Rattle.written_laws.specs.Walk.{start_of, ThroughoutAll}
+use Rattle.c_types.specs.Bodies.{body_of}
 use Rattle.written_laws.specs.Literals.{largest, IsLiteral, IsInitial, ShapeHasInts}
 use Rattle.written_laws.specs.SourceNames.{IsWord, ShapeHasNames}
 use Rattle.written_laws.proofs.GivenWords.{TokensFit, fit_append, given_fit}

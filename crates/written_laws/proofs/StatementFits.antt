@@ -22,7 +22,8 @@ use Rattle.c_grammar.specs.declared.right.Right.TheVariants as right
 use Rattle.c_grammar.specs.Scopes.{Scope, is_declared, declare, one_more, temporary}
 use Rattle.c_grammar.specs.Statements.{CondTree, cond_tokens, side_tokens, call_tokens, pointer_tokens, function_call_tokens, arity, OneTree, one_tokens, one_stmt, PickTree, pick_tokens, pick_stmt, Simple, simple_tokens, simple_scope, simple_stmts, IsSimple, Piece, Body, Pieces, tokens, body_tokens, pieces_tokens, IsPiece, IsBody, ArePieces, stmts, body_stmts, pieces_stmts, scope_after, body_scope, pieces_scope, exprs_of, right_of, call_of, call_pos, call_to, right_to, stored, set_stmts, set_scope}
 use Rattle.c_grammar.specs.Statements as tree
-use Rattle.written_laws.specs.Walk.{Context, with_dest, told, told_all, in_loop, in_pick, past, past_all, Throughout, ThroughoutAll, body_of}
+use Rattle.written_laws.specs.Walk.{Context, with_dest, told, told_all, in_loop, in_pick, past, past_all, Throughout, ThroughoutAll}
+use Rattle.c_types.specs.Bodies.{body_of}
 use Rattle.written_laws.specs.Breaks.{IsNoStrayBreak}
 use Rattle.written_laws.specs.Destinations.{OfResult, IsLocal}
 use Rattle.written_laws.specs.Literals.{StatementHasInts}

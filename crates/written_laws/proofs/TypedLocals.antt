@@ -24,7 +24,8 @@ use Rattle.c_types.specs.Programs.{with_global, with_globals, with_func, with_fu
 use Rattle.c_types.specs.Typing.{IsDest, IsTypedStatement, AreTyped}
 use Rattle.c_types.specs.Types.{AreParams, IsTypedFunc, AreTypedFuncs, Types}
 use Rattle.c_types.proofs.FunctionLaws.{params_outside}
-use Rattle.written_laws.specs.Walk.{Context, with_dest, told, told_all, in_loop, past, past_all, start_of, Throughout, ThroughoutAll, body_of, InBodies}
+use Rattle.written_laws.specs.Walk.{Context, with_dest, told, told_all, in_loop, past, past_all, start_of, Throughout, ThroughoutAll, InBodies}
+use Rattle.c_types.specs.Bodies.{body_of}
 use Rattle.written_laws.specs.Destinations.{OfResult}
 use Rattle.written_laws.proofs.Scopes.{same_bytes, names_in}
 

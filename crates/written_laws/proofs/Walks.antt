@@ -4,7 +4,8 @@ use Rattle.std.proofs.Common.{refl}
 use Rattle.c_lang.specs.Names.{Bytes}
 use Rattle.c_lang.specs.Trees.{Statement, Statements, skip, set, set_element, call, call_by, if_else, while_loop, break_loop, return_with, assert_that, input, output, point, choice, force, pick, none, more, statement_of}
 use Rattle.c_lang.specs.declared.stmt.Stmt.{Stmt}
-use Rattle.written_laws.specs.Walk.{Context, told, told_all, in_loop, in_pick, past, past_all, Throughout, ThroughoutAll, body_of}
+use Rattle.written_laws.specs.Walk.{Context, told, told_all, in_loop, in_pick, past, past_all, Throughout, ThroughoutAll}
+use Rattle.c_types.specs.Bodies.{body_of}
 
 module _ (P Q R : Context → Statement → Type 0) (joins : (at : Context) (s : Statement) → P at s → Q at s → R at s) where
   mutual

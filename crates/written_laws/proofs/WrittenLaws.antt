@@ -11,7 +11,8 @@ use Rattle.c_lang.specs.declared.program.GlobalVar.{GlobalVar}
 use Rattle.c_lang.specs.declared.program.Func.{Func}
 use Rattle.c_lang.specs.declared.program.Program.{Program}
 use Rattle.c_grammar.specs.Written.{IsWritten}
-use Rattle.written_laws.specs.Walk.{Context, start_of, ThroughoutAll, body_of, InBodies}
+use Rattle.written_laws.specs.Walk.{Context, start_of, ThroughoutAll, InBodies}
+use Rattle.c_types.specs.Bodies.{body_of}
 use Rattle.written_laws.specs.Breaks.{IsNoStrayBreak, BreaksStandInLoops}
 use Rattle.written_laws.specs.Destinations.{OfResult, IsLocal, ResultsGoToLocals, IsNoGlobal, ResultsGoToNoGlobals}
 use Rattle.written_laws.specs.Literals.{ShapeHasInts, StatementHasInts, LiteralsAreInts}

@@ -1,13 +1,13 @@
 -- What is said of each statement of a function's body, those inside of others included.
 use Rattle.std.specs.Prelude.{⊤, Bool, true, false, List, ◌∷◌, map, All}
 use Rattle.c_lang.specs.Names.{Bytes}
-use Rattle.c_lang.specs.Trees.{Statement, Statements, set, call, call_by, if_else, while_loop, input, choice, pick, none, more, statement_of, statements}
-use Rattle.c_lang.specs.declared.stmt.Stmt.{Stmt}
+use Rattle.c_lang.specs.Trees.{Statement, Statements, set, call, call_by, if_else, while_loop, input, choice, pick, none, more}
 use Rattle.c_lang.specs.declared.stmt.Kind.{Kind}
 use Rattle.c_lang.specs.declared.stmt.Dest.{Dest}
 use Rattle.c_lang.specs.declared.stmt.Dest.TheVariants.{Nowhere, Into, Fresh}
 use Rattle.c_lang.specs.declared.program.Func.{Func}
 use Rattle.c_lang.specs.declared.program.Program.{Program}
+use Rattle.c_types.specs.Bodies.{body_of}
 
 -- where a statement stands: in a loop, in a client's pick, and past which parameters and locals of
 -- its function's text, of blocks that have ended too
@@ -63,9 +63,6 @@ module _ (Says : Context → Statement → Type 0) where
 -- where a function's body begins
 abbrev pub start_of : Func → Context
 start_of f = record { in_loop = false; in_pick = false; declared = map (λ (q : Kind × Bytes). q.1) f.params }
-
-abbrev pub body_of : List Stmt → Statements
-body_of ss = statements (map statement_of ss)
 
 -- each statement of each function's body
 abbrev pub InBodies : (Context → Statement → Type 0) → Program → Type 0
