@@ -12,8 +12,8 @@ returns-in-Ok-clause-only c = λ other parsed. only c.args.unit c.args.deep c.ar
 
 pub returns-in-Err-Syntax-clause-answer : goal.returns-in-Err-Syntax-clause-answer
 returns-in-Err-Syntax-clause-answer c =
-    refused c.args.unit c.args.deep c.args.tokens.now c.place.result c.refusal-in-Err-Syntax.result (sym c.too_deep.ensures ∙ c.in_default.is) (none_read c.in-Err-Syntax.field-0 c.in-Err-Syntax.left _ c.in-Err-Syntax.field-0-is c.in-Err-Syntax.ensures) c.place.ensures
-    c.refusal-in-Err-Syntax.ensures
+    refused c.args.unit c.args.deep c.args.tokens.now c.place.result c.at-in-Err-Syntax.result (sym c.too_deep.ensures ∙ c.in_default.is) (none_read c.in-Err-Syntax.field-0 c.in-Err-Syntax.left _ c.in-Err-Syntax.field-0-is c.in-Err-Syntax.ensures) c.place.ensures
+    c.at-in-Err-Syntax.ensures
 
 pub returns-in-Err-Syntax-clause-only : goal.returns-in-Err-Syntax-clause-only
 returns-in-Err-Syntax-clause-only c = λ other parsed. absurd (never c.args.unit c.args.deep c.args.tokens.now other (none_read c.in-Err-Syntax.field-0 c.in-Err-Syntax.left _ c.in-Err-Syntax.field-0-is c.in-Err-Syntax.ensures) parsed)
