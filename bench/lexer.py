@@ -36,7 +36,7 @@ fn main(rt: HostRuntime) -> io::Result<()> {
 
 def main():
     folder = pathlib.Path(sys.argv[1])
-    [program] = build(folder, ["c_lang", "c_lexer"], [("lex_bench", "c_lang c_lexer sqlite_items", PROGRAM)])
+    [program] = build(folder, ["c_lang", "c_grammar", "c_lexer"], [("lex_bench", "c_grammar c_lang c_lexer sqlite_items", PROGRAM)])
     good, before = True, None
     for megabytes in [1, 2, 4]:
         text = merged(megabytes * 1_000_000)

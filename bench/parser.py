@@ -63,10 +63,10 @@ fn main(rt: HostRuntime) -> io::Result<()> {
 }
 '''
 
-CRATES = ["c_lang", "c_lexer", "c_expressions", "c_statements", "c_parser"]
+CRATES = ["c_lang", "c_grammar", "c_lexer", "c_expressions", "c_statements", "c_parser"]
 PROGRAMS = [
     ("lex_bench", "c_lang c_lexer sqlite_items", LEXES),
-    ("parse_bench", "c_lang c_lexer c_parser sqlite_items", PARSES),
+    ("parse_bench", "c_grammar c_lang c_lexer c_parser sqlite_items", PARSES),
 ]
 
 

@@ -47,8 +47,8 @@ fn main(rt: HostRuntime) -> io::Result<()> {
     Ok(())
 }
 '''
-CRATES = ["c_lang", "c_lexer", "c_expressions", "c_statements", "c_parser", "c_types", "merge_printer"]
-USES = "c_lang c_lexer c_parser merge_printer sqlite_items"
+CRATES = ["c_lang", "c_grammar", "c_lexer", "c_expressions", "c_statements", "c_parser", "c_types", "merge_printer"]
+USES = "c_grammar c_lang c_lexer c_parser merge_printer sqlite_items"
 PROGRAMS = [("print_once", USES, PRINTS.replace("TIMES", "1")), ("print_often", USES, PRINTS.replace("TIMES", "11"))]
 
 

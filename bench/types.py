@@ -47,10 +47,10 @@ CHECKS = PARSES.replace("how many functions it has", "how many functions are typ
     "    Ok(program.funcs.len())", "    let typed = check(alloc, Unit::Merge, program)?;\n    Ok(typed.program().funcs.len())"
 )
 
-CRATES = ["c_lang", "c_lexer", "c_expressions", "c_statements", "c_parser", "c_types"]
+CRATES = ["c_lang", "c_grammar", "c_lexer", "c_expressions", "c_statements", "c_parser", "c_types"]
 PROGRAMS = [
-    ("parse_bench", "c_lang c_lexer c_parser sqlite_items", PARSES),
-    ("check_bench", "c_lang c_lexer c_parser c_types sqlite_items", CHECKS),
+    ("parse_bench", "c_grammar c_lang c_lexer c_parser sqlite_items", PARSES),
+    ("check_bench", "c_grammar c_lang c_lexer c_parser c_types sqlite_items", CHECKS),
 ]
 
 
