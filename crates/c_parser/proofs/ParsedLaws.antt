@@ -8,7 +8,7 @@ use Rattle.c_grammar.specs.declared.token.Token.{Token}
 use Rattle.c_expressions.specs.declared.parse_error.ParseError.{ParseError}
 use Rattle.c_expressions.specs.declared.parse_error.ParseError.TheVariants as error
 use Rattle.c_expressions.specs.Code.ParseSteps.{Fails}
-use Rattle.c_grammar.specs.Scopes.{refusal}
+use Rattle.c_lang.specs.Refusals.{refused_at, syntax_error}
 use Rattle.c_grammar.specs.Nesting.{too_deep}
 use Rattle.c_grammar.specs.Parsed.{IsParsed, IsPlace, IsSyntaxError, refused_by, IsRefused}
 use Rattle.c_parser.specs.Code.UnitReading.{unit_at}
@@ -28,7 +28,7 @@ module _ (u : Unit) (d : ℕ) (ts : List Token) where
   pub never : (q : Program) → unit_at u d ts ≡ None → IsParsed u d ts q → ⊥
   never q none other = no_gram u d ts none q other.gram
 
-  pub refused : (at : Pos) (r : Refusal) → too_deep d 0 ts ≡ None → unit_at u d ts ≡ None → IsPlace u ts at → r ≡ refusal 3 at → IsRefused u d ts r
+  pub refused : (at : Pos) (r : Refusal) → too_deep d 0 ts ≡ None → unit_at u d ts ≡ None → IsPlace u ts at → r ≡ refused_at syntax_error at → IsRefused u d ts r
   refused at r nested none place number =
-      let error : IsSyntaxError u d ts (refusal 3 at) = record { number = refl; place = place; no_program = no_gram u d ts none } in
+      let error : IsSyntaxError u d ts (refused_at syntax_error at) = record { number = refl; place = place; no_program = no_gram u d ts none } in
       subst (λ (o : Option Pos). refused_by u d ts r o) (sym nested) (subst (λ (q : Refusal). IsSyntaxError u d ts q) (sym number) error)

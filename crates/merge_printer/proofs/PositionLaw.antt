@@ -13,7 +13,7 @@ use Rattle.c_lang.specs.declared.unit.Unit.TheVariants.{Merge}
 use Rattle.c_lang.specs.declared.unit.Pos.{Pos}
 use Rattle.c_grammar.specs.Bytes.{is_in_line}
 use Rattle.c_grammar.specs.Pieces.{SetsPosition, quoted, white, position_line}
-use Rattle.c_grammar.specs.Lexed.{Cuts, goes, after_byte, after_bytes, behind}
+use Rattle.c_grammar.specs.Lexed.{Cuts, goes, after_byte, after_bytes, place_behind}
 use Rattle.c_grammar.specs.declared.token.Token.{Token}
 use Rattle.c_grammar.specs.declared.piece.Piece.TheVariants as piece
 use Rattle.c_grammar.specs.declared.piece.Place.{Place}
@@ -73,12 +73,12 @@ at_line p line = record { unit = p.unit; line = line }
 
 -- the place behind the line's line feed
 behind_line : Place → Pos → Place
-behind_line p given = after_bytes (behind p (piece.Position given) (line_of given)) (codes "\n")
+behind_line p given = after_bytes (place_behind p (piece.Position given) (line_of given)) (codes "\n")
 
 behind_is : (p : Place) (given : Pos) → IsPosition given → (behind_line p given).pos ≡ given
 unfolding behind_line
 behind_is p given h =
-    let r = behind p (piece.Position given) (line_of given) in
+    let r = place_behind p (piece.Position given) (line_of given) in
     let same : r.pos ≡ at_line given (given.line - 1) = same_line _ (line_of given) (line_in_line given h) in
     ap (λ (q : Pos). at_line q (q.line + 1)) same ∙ ap (at_line given) (omega (arith, h.1))
 
@@ -101,7 +101,7 @@ positioned {B} {tb} {IsB} {p} {b} {rest} given h fresh f =
             subst (λ (z : Bytes). Cuts Merge p z (tb x.moves.tree ++ ts)) (sym (lined given b rest))
             (goes p (line_of given) (codes "\n" ++ (b ++ rest)) (piece.Position given) (tb x.moves.tree ++ ts)
             (position_line (line_of given) given fresh refl (record { all = line_in_line given h; ends = refl }) (sets_position given h))
-            (goes (behind p (piece.Position given) (line_of given)) (codes "\n") (b ++ rest) piece.Space (tb x.moves.tree ++ ts) (white 10 refl)
+            (goes (place_behind p (piece.Position given) (line_of given)) (codes "\n") (b ++ rest) piece.Space (tb x.moves.tree ++ ts) (white 10 refl)
             (x.moves.cuts ts c)));
       };
     }

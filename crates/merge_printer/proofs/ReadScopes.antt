@@ -11,7 +11,8 @@ use Rattle.c_lang.specs.declared.unit.Pos.{Pos}
 use Rattle.c_lang.specs.declared.refusal.Refusal.{Refusal}
 use Rattle.std.proofs.lemmas.Slice.Eq.{bytes_eq-Decides}
 use Rattle.c_lexer.proofs.Cases.{same_bytes}
-use Rattle.c_grammar.specs.Scopes.{Scope, is_declared, declare, refusal, arity_refusals}
+use Rattle.c_grammar.specs.Scopes.{Scope, is_declared, declare, arity_refusals}
+use Rattle.c_lang.specs.Refusals.{refused_at, past_limit}
 use Rattle.merge_printer.proofs.Fitting.{StatementFits, StatementsFit, scope_behind, scope_behind_all, Keeps, KeepsAll}
 
 -- ---- what is declared
@@ -124,6 +125,6 @@ pub few_parameters : (xs : List Refusal) (p : Pos) (n : ℕ) → xs ++ arity_ref
 few_parameters (x ∷ xs) p n h = absurd cc
 few_parameters [] p n h = by_test (nat_lt 32 n) refl h
   where
-    by_test : (b : Bool) → nat_lt 32 n ≡ b → cond b (refusal 27 p ∷ []) [] ≡ [] → n ≤ 32
+    by_test : (b : Bool) → nat_lt 32 n ≡ b → cond b (refused_at past_limit p ∷ []) [] ≡ [] → n ≤ 32
     by_test true test e = absurd cc
     by_test false test e = ltb-false 32 n test

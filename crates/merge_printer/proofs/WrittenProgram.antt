@@ -14,7 +14,8 @@ use Rattle.c_lang.specs.declared.program.GlobalVar.{GlobalVar}
 use Rattle.c_lang.specs.declared.program.Program.{Program}
 use Rattle.c_grammar.specs.Tokens.{mark, comma, round_close, brace_open, brace_close, semicolon}
 use Rattle.c_grammar.specs.Separated.{Separated, last, more, parts_of, separated_tokens, Each}
-use Rattle.c_grammar.specs.Scopes.{Scope, refusal}
+use Rattle.c_lang.specs.Refusals.{refused_at, wrong_kind, past_limit}
+use Rattle.c_grammar.specs.Scopes.{Scope}
 use Rattle.c_grammar.specs.Statements.{pointer_tokens, arity, Pieces, ArePieces, pieces_tokens, pieces_stmts, pieces_scope}
 use Rattle.c_parser.specs.declared.parts.Parts.{Parts}
 use Rattle.c_grammar.specs.Units.{ParamTree, nameless, number, pointer, ParamsTree, nothing, void, several, HeadTree, param_tokens, params_tokens, head_tokens, param_list, param_kind, named_param, param_refusals, all_refusals, IsNamed, AreNamed, SignedTree, plain, negative, signed_tokens, signed_value, NumberInit, number_init_tokens, ArrayInit, array_init_tokens, values_of, start_value, PointerInit, pointer_init_tokens, target_of, External, external_tokens, AreExternals, IsExternal, unit_tokens, add, add_all, no_parts, array_refusals, kept_values, body_start, function_start}
@@ -108,8 +109,8 @@ no_refusal false r h = refl
 
 array_accepted : (p : Pos) (room size count : ℕ) → array_refusals p room size count ≡ [] → IsAccepted room size count
 array_accepted p room size count none =
-    let short = no_refusal (nat_lt size count) (refusal 10 p) (none_before (cond (nat_lt size count) (refusal 10 p ∷ []) []) _ none) in
-    let length = no_refusal (size == 0 || nat_lt 65536 size || nat_lt room size) (refusal 27 p) (none_behind (cond (nat_lt size count) (refusal 10 p ∷ []) []) _ none) in
+    let short = no_refusal (nat_lt size count) (refused_at wrong_kind p) (none_before (cond (nat_lt size count) (refused_at wrong_kind p ∷ []) []) _ none) in
+    let length = no_refusal (size == 0 || nat_lt 65536 size || nat_lt room size) (refused_at past_limit p) (none_behind (cond (nat_lt size count) (refused_at wrong_kind p ∷ []) []) _ none) in
     record {
       some = some_of size room length;
       few = few_of size room length;
