@@ -18,25 +18,25 @@ returns-in_err-program-clause-answer c =
     let p = err_from_is_err_and c.from_residual-in_err-program.result c.from_residual-in_err-program.ensures.1 in
     let cut = c.in_ok-tokens.ensures.answer in
     rw (p.1, p.2)
-    (grammar-refused c.args.unit c.args.text.now c.in_ok-tokens.tokens.items cut.0 cut.1 _ (rw c.deref.ensures.value at c.in_err-program.ensures.answer))
+    (grammar-refused c.args.unit c.args.text.now c.in_ok-tokens.tokens.items cut.0 cut.1 _ (rw (c.deref.ensures.value, c.height_limit.ensures) at c.in_err-program.ensures.answer))
 
 pub returns-in_err-program-clause-only : goal.returns-in_err-program-clause-only
 returns-in_err-program-clause-only c = λ program is.
     let p = err_from_is_err_and c.from_residual-in_err-program.result c.from_residual-in_err-program.ensures.1 in
     let same : c.in_ok-tokens.tokens.items ≡ is.parses.tokens = c.in_ok-tokens.ensures.only is.parses.tokens is.within is.parses.lexed in
     rw (p.1, p.2)
-    (source-only c.args.unit c.args.text.now c.in_ok-tokens.tokens.items (Err c.in_err-program.field-0.0) (rw c.deref.ensures.value at c.in_err-program.ensures.only) program is same)
+    (source-only c.args.unit c.args.text.now c.in_ok-tokens.tokens.items (Err c.in_err-program.field-0.0) (rw (c.deref.ensures.value, c.height_limit.ensures) at c.in_err-program.ensures.only) program is same)
 
 pub returns-clause-answer : goal.returns-clause-answer
 returns-clause-answer c =
     let cut = c.in_ok-tokens.ensures.answer in
     checked c.args.unit c.args.text.now c.in_ok-tokens.tokens.items cut.0 cut.1 _ c.check.result
-    (rw c.deref.ensures.value at c.in_ok-program.ensures.answer) c.check.ensures
+    (rw (c.deref.ensures.value, c.height_limit.ensures) at c.in_ok-program.ensures.answer) c.check.ensures
 
 pub returns-clause-only : goal.returns-clause-only
 returns-clause-only c = λ program is.
     let same : c.in_ok-tokens.tokens.items ≡ is.parses.tokens = c.in_ok-tokens.ensures.only is.parses.tokens is.within is.parses.lexed in
-    let source = source-only c.args.unit c.args.text.now c.in_ok-tokens.tokens.items c.parse.result (rw c.deref.ensures.value at c.parse.ensures.only) program is same in
+    let source = source-only c.args.unit c.args.text.now c.in_ok-tokens.tokens.items c.parse.result (rw (c.deref.ensures.value, c.height_limit.ensures) at c.parse.ensures.only) program is same in
     checked-only c.args.unit c.args.text.now c.in_ok-program.program c.check.result c.check.ensures program is (rw c.in_ok-program.was at source)
 
 pub check-requires : goal.check-requires
