@@ -2,6 +2,7 @@
 
 ghost use Rattle.std.specs.Prelude.{◌≡◌, List, [], IfOk, map, option_map, string_bytes};
 ghost use Rattle.std.specs.List.{list_all};
+ghost use Rattle.c_lang.specs.Names.{behind};
 ghost use Rattle.top_call.specs.Numbers as numbers;
 ghost use Rattle.top_call.specs.Words as spec;
 ghost use Rattle.top_call.specs.Seen.{IsChosen, seen_numbers, seen_run, seen_text};
@@ -47,14 +48,14 @@ impl<'a> Chosen<'a> {
 
 // What follows the option's name in the word, where the word begins with it.
 fn value_in<'a>(word: &'a str, option: &str) -> Option<&'a str>
-    ensures { option_map seen_text result ≡ spec.behind option.now word.entry.now }
+    ensures { option_map seen_text result ≡ behind option.now word.entry.now }
 {
     word.strip_prefix(option)
 }
 
 // What follows the option's name in the words that begin with it.
 fn values_of<'a>(words: &'a [String], option: &str) -> Chosen<'a>
-    ensures { IsChosen (spec.chosen (spec.behind option.now) (map string_bytes words.entry.now)) result }
+    ensures { IsChosen (spec.chosen (behind option.now) (map string_bytes words.entry.now)) result }
 {
     let mut values = Chosen::Nothing;
     for word in words {
@@ -94,7 +95,7 @@ fn are_run_words(words: &[String]) -> bool
 
 fn answers_given(alloc: Global, words: &[String]) -> Result<Option<Vec<i32>>, AllocError>
     ensures { IfOk result (λ list. option_map seen_numbers list ≡ spec.option_value numbers.answers_of []
-        (spec.chosen (spec.behind spec.answers_name) (map string_bytes words.now))) }
+        (spec.chosen (behind spec.answers_name) (map string_bytes words.now))) }
 {
     match values_of(words, ANSWERS) {
         Chosen::Nothing => Ok(Some(Vec::new(alloc))),
@@ -105,7 +106,7 @@ fn answers_given(alloc: Global, words: &[String]) -> Result<Option<Vec<i32>>, Al
 
 fn steps_given(words: &[String]) -> Option<u32>
     ensures { result ≡ spec.option_value numbers.steps_of numbers.default_steps
-        (spec.chosen (spec.behind spec.steps_name) (map string_bytes words.now)) }
+        (spec.chosen (behind spec.steps_name) (map string_bytes words.now)) }
 {
     match values_of(words, STEPS) {
         Chosen::Nothing => Some(DEFAULT_STEPS),
