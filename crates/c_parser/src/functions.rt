@@ -1,8 +1,7 @@
 //! Prototypes and functions, behind the opening bracket of their parameters.
 
-ghost use Rattle.std.specs.Prelude.{[], ◌≡◌, ◌<◌, ◌≤◌, ◌+◌, ◌^◌, length, map, IfOk};
+ghost use Rattle.std.specs.Prelude.{[], ◌≡◌, ◌<◌, ◌≤◌, ◌+◌, ◌^◌, length, map, IfOk, OnOk};
 ghost use Rattle.c_expressions.specs.Code.ParseSteps.{Gives};
-ghost use Rattle.c_statements.specs.Code.Seen.{seen_scope};
 ghost use Rattle.c_parser.specs.Code.UnitReading as spec;
 ghost use Rattle.c_grammar.specs.Units as units;
 
@@ -12,9 +11,8 @@ use c_expressions::front::skip;
 use c_expressions::parse_error::ParseError;
 use c_lang::{Func, Kind, Name, Pos, Proto, Refusal, Unit};
 use c_lexer::{Token, punctuator};
-use c_statements::scope::{Scope, declare};
+use c_statements::scope::Scope;
 use c_statements::statements::items;
-use indexmap::IndexSet;
 use sqlite_items::Items;
 use std::alloc::{AllocError, Global};
 
@@ -43,16 +41,12 @@ fn body_start(
     params: &[(Kind, Name)],
     early: Items<Refusal>,
 ) -> Result<Scope, AllocError>
-    ensures scope { IfOk result (λ x. seen_scope x ≡ units.body_start params.now early) }
+    ensures scope { IfOk result (λ x. x ≡ units.body_start params.now early) }
     ensures count { IfOk result (λ x. x.count ≡ 0) }
 {
-    let mut scope = Scope {
-        count: 0,
-        declared: IndexSet::new(alloc),
-        early,
-    };
+    let mut scope = Scope::new(alloc, early);
     for param in params {
-        scope = declare(scope, param.1.copy(alloc)?)?;
+        scope.declare(param.1.copy(alloc)?)?;
     }
     Ok(scope)
 }
@@ -61,28 +55,28 @@ fn with_body<'a>(
     alloc: Global,
     unit: Unit,
     deep: u32,
-    parts: Parts,
+    parts: &mut Parts,
     pos: Pos,
     gives: bool,
-    name: Name,
+    name: &Name,
     params: Items<(Kind, Name)>,
     early: Items<Refusal>,
     tokens: &'a [Token],
-) -> Result<(Parts, &'a [Token]), ParseError>
-    ensures read { Gives (λ x. (x.0, x.1.now)) result (spec.with_body unit deep parts pos gives name params early tokens.now) }
-    ensures rest { IfOk result (λ x. length x.1.now ≤ length tokens.now) }
+) -> Result<&'a [Token], ParseError>
+    ensures read { Gives (λ rest. (parts.new, rest.now)) result (spec.with_body unit deep parts.old pos gives name.now params early tokens.now) }
+    ensures rest { IfOk result (λ rest. length rest.now ≤ length tokens.now) }
 {
-    let scope = body_start(alloc, params.as_slice(), early)?;
-    let body = items(alloc, unit, deep, false, scope, tokens)?;
-    let scope = body.scope;
+    let mut scope = body_start(alloc, params.as_slice(), early)?;
+    let body = items(alloc, unit, deep, false, &mut scope, tokens)?;
     let func = Func {
-        name,
+        name: name.copy(alloc)?,
         params,
         gives,
         body: body.stmts,
         pos,
     };
-    Ok((parts.with_func(func, scope.early)?, body.rest))
+    parts.add_func(func, scope.early())?;
+    Ok(body.rest)
 }
 
 #[tactic(auto, unfolding(crate::specs::Code::UnitReading::function_at))]
@@ -90,15 +84,15 @@ fn function_at<'a>(
     alloc: Global,
     unit: Unit,
     deep: u32,
-    parts: Parts,
+    parts: &mut Parts,
     pos: Pos,
     gives: bool,
-    name: Name,
+    name: &Name,
     params: Params,
     tokens: &'a [Token],
-) -> Result<(Parts, &'a [Token]), ParseError>
-    ensures read { Gives (λ x. (x.0, x.1.now)) result (spec.function_at unit deep parts pos gives name params tokens.now) }
-    ensures rest { IfOk result (λ x. length x.1.now ≤ length tokens.now) }
+) -> Result<&'a [Token], ParseError>
+    ensures read { Gives (λ rest. (parts.new, rest.now)) result (spec.function_at unit deep parts.old pos gives name.now params tokens.now) }
+    ensures rest { IfOk result (λ rest. length rest.now ≤ length tokens.now) }
 {
     let left = tokens.len().saturating_add(1);
     let named = named_params(alloc, params.list.as_slice(), left)?;
@@ -118,23 +112,23 @@ fn kinds_of(alloc: Global, params: &[Param]) -> Result<Items<Kind>, AllocError>
     Ok(kinds)
 }
 
-fn prototype(
+fn add_prototype(
     alloc: Global,
-    parts: Parts,
+    parts: &mut Parts,
     pos: Pos,
     gives: bool,
-    name: Name,
+    name: &Name,
     params: Params,
-) -> Result<Parts, AllocError>
-    ensures { IfOk result (λ x. x ≡ spec.with_prototype parts pos gives name params) }
+) -> Result<(), AllocError>
+    ensures { OnOk result (parts.new ≡ spec.with_prototype parts.old pos gives name.now params) }
 {
     let proto = Proto {
-        name,
+        name: name.copy(alloc)?,
         params: kinds_of(alloc, params.list.as_slice())?,
         gives,
         pos,
     };
-    parts.with_proto(proto, params.early)
+    parts.add_proto(proto, params.early)
 }
 
 /// A prototype or a function, behind the opening bracket of its parameters.
@@ -143,19 +137,19 @@ pub fn headed<'a>(
     alloc: Global,
     unit: Unit,
     deep: u32,
-    parts: Parts,
+    parts: &mut Parts,
     pos: Pos,
     gives: bool,
-    name: Name,
+    name: &Name,
     tokens: &'a [Token],
-) -> Result<(Parts, &'a [Token]), ParseError>
-    ensures read { Gives (λ x. (x.0, x.1.now)) result (spec.headed unit deep parts pos gives name tokens.now) }
-    ensures rest { IfOk result (λ x. length x.1.now < length tokens.now) }
+) -> Result<&'a [Token], ParseError>
+    ensures read { Gives (λ rest. (parts.new, rest.now)) result (spec.headed unit deep parts.old pos gives name.now tokens.now) }
+    ensures rest { IfOk result (λ rest. length rest.now < length tokens.now) }
 {
     let (params, rest) = params_at(alloc, pos, tokens)?;
     if let Some(behind) = skip(punctuator::SEMICOLON, rest) {
-        let parts = prototype(alloc, parts, pos, gives, name, params)?;
-        return Ok((parts, behind));
+        add_prototype(alloc, parts, pos, gives, name, params)?;
+        return Ok(behind);
     }
     match skip(punctuator::BRACE_OPEN, rest) {
         Some(inside) => function_at(alloc, unit, deep, parts, pos, gives, name, params, inside),
