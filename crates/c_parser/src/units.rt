@@ -5,7 +5,7 @@ ghost use Rattle.c_expressions.specs.Code.ParseSteps.{Gives};
 ghost use Rattle.c_parser.specs.Code.UnitReading as spec;
 ghost use Rattle.c_grammar.specs.Units as units;
 
-use crate::functions::headed;
+use crate::functions::{Head, headed};
 use crate::globals::{array_global, number_global, pointer_global};
 use crate::parts::Parts;
 use c_expressions::front::{after, name_at, skip};
@@ -28,7 +28,12 @@ fn named<'a>(
     ensures rest { IfOk result (λ rest. length rest.now < length tokens.now) }
 {
     if let Some(inside) = skip(punctuator::ROUND_OPEN, tokens) {
-        return headed(alloc, unit, deep, parts, pos, true, name, inside);
+        let head = Head {
+            pos,
+            gives: true,
+            name,
+        };
+        return headed(alloc, unit, deep, parts, head, inside);
     }
     match skip(punctuator::SQUARE_OPEN, tokens) {
         Some(inside) => array_global(alloc, parts, pos, name, inside),
@@ -72,16 +77,12 @@ fn void_external<'a>(
         return Err(ParseError::Syntax(tokens.len()));
     };
     let inside = after(punctuator::ROUND_OPEN, rest)?;
-    headed(
-        alloc,
-        unit,
-        deep,
-        parts,
+    let head = Head {
         pos,
-        false,
+        gives: false,
         name,
-        inside,
-    )
+    };
+    headed(alloc, unit, deep, parts, head, inside)
 }
 
 #[tactic(auto, unfolding(crate::specs::Code::UnitReading::external))]
