@@ -4,3 +4,4 @@ pub mod UnitLaws
 pub mod UnitTurns
 pub mod ParsedLaws
 pub mod WrittenLaws
+pub mod TextLaws

@@ -1,8 +1,7 @@
 //! Prototypes and functions, behind the opening bracket of their parameters.
 
-ghost use Rattle.std.specs.Prelude.{[], ◌≡◌, ◌<◌, ◌≤◌, ◌+◌, ◌^◌, length, map, IfOk};
+ghost use Rattle.std.specs.Prelude.{[], ◌≡◌, ◌<◌, ◌≤◌, ◌+◌, ◌^◌, length, map, IfOk, OnOk};
 ghost use Rattle.c_expressions.specs.Code.ParseSteps.{Gives};
-ghost use Rattle.c_statements.specs.Code.Seen.{seen_scope};
 ghost use Rattle.c_parser.specs.Code.UnitReading as spec;
 ghost use Rattle.c_grammar.specs.Units as units;
 
@@ -10,13 +9,20 @@ use crate::params::{Param, Params, params_at};
 use crate::parts::Parts;
 use c_expressions::front::skip;
 use c_expressions::parse_error::ParseError;
-use c_lang::{Func, Kind, Name, Pos, Proto, Refusal, Unit};
+use c_lang::{Func, Kind, Name, Pos, Proto, Refusal, Stmt, Unit};
 use c_lexer::{Token, punctuator};
-use c_statements::scope::{Scope, declare};
+use c_statements::scope::Scope;
 use c_statements::statements::items;
-use indexmap::IndexSet;
 use sqlite_items::Items;
 use std::alloc::{AllocError, Global};
+
+/// What stands before the parameters of a prototype or a function.
+#[derive(Clone, Copy)]
+pub struct Head<'a> {
+    pub pos: Pos,
+    pub gives: bool,
+    pub name: &'a Name,
+}
 
 // The parameters of a function, which all have names; `left` tokens are behind them, the next one
 // counted.
@@ -43,46 +49,54 @@ fn body_start(
     params: &[(Kind, Name)],
     early: Items<Refusal>,
 ) -> Result<Scope, AllocError>
-    ensures scope { IfOk result (λ x. seen_scope x ≡ units.body_start params.now early) }
+    ensures scope { IfOk result (λ x. x ≡ units.body_start params.now early) }
     ensures count { IfOk result (λ x. x.count ≡ 0) }
 {
-    let mut scope = Scope {
-        count: 0,
-        declared: IndexSet::new(alloc),
-        early,
-    };
+    let mut scope = Scope::new(alloc, early);
     for param in params {
-        scope = declare(scope, param.1.copy(alloc)?)?;
+        scope.declare(param.1.copy(alloc)?)?;
     }
     Ok(scope)
+}
+
+// Adds a function to the declarations.
+fn add_function(
+    alloc: Global,
+    parts: &mut Parts,
+    head: Head<'_>,
+    params: Items<(Kind, Name)>,
+    body: Items<Stmt>,
+    early: Items<Refusal>,
+) -> Result<(), AllocError>
+    ensures { OnOk result (parts.new ≡ units.with_func parts.old (record { name = head.entry.name.now; params = params; gives = head.entry.gives; body = body; pos = head.entry.pos }) early) }
+{
+    let func = Func {
+        name: head.name.copy(alloc)?,
+        params,
+        gives: head.gives,
+        body,
+        pos: head.pos,
+    };
+    parts.add_func(func, early)
 }
 
 fn with_body<'a>(
     alloc: Global,
     unit: Unit,
     deep: u32,
-    parts: Parts,
-    pos: Pos,
-    gives: bool,
-    name: Name,
+    parts: &mut Parts,
+    head: Head<'_>,
     params: Items<(Kind, Name)>,
     early: Items<Refusal>,
     tokens: &'a [Token],
-) -> Result<(Parts, &'a [Token]), ParseError>
-    ensures read { Gives (λ x. (x.0, x.1.now)) result (spec.with_body unit deep parts pos gives name params early tokens.now) }
-    ensures rest { IfOk result (λ x. length x.1.now ≤ length tokens.now) }
+) -> Result<&'a [Token], ParseError>
+    ensures read { Gives (λ rest. (parts.new, rest.now)) result (spec.with_body unit deep parts.old head.entry.pos head.entry.gives head.entry.name.now params early tokens.now) }
+    ensures rest { IfOk result (λ rest. length rest.now ≤ length tokens.now) }
 {
-    let scope = body_start(alloc, params.as_slice(), early)?;
-    let body = items(alloc, unit, deep, false, scope, tokens)?;
-    let scope = body.scope;
-    let func = Func {
-        name,
-        params,
-        gives,
-        body: body.stmts,
-        pos,
-    };
-    Ok((parts.with_func(func, scope.early)?, body.rest))
+    let mut scope = body_start(alloc, params.as_slice(), early)?;
+    let body = items(alloc, unit, deep, false, &mut scope, tokens)?;
+    add_function(alloc, parts, head, params, body.stmts, scope.early())?;
+    Ok(body.rest)
 }
 
 #[tactic(auto, unfolding(crate::specs::Code::UnitReading::function_at))]
@@ -90,22 +104,17 @@ fn function_at<'a>(
     alloc: Global,
     unit: Unit,
     deep: u32,
-    parts: Parts,
-    pos: Pos,
-    gives: bool,
-    name: Name,
+    parts: &mut Parts,
+    head: Head<'_>,
     params: Params,
     tokens: &'a [Token],
-) -> Result<(Parts, &'a [Token]), ParseError>
-    ensures read { Gives (λ x. (x.0, x.1.now)) result (spec.function_at unit deep parts pos gives name params tokens.now) }
-    ensures rest { IfOk result (λ x. length x.1.now ≤ length tokens.now) }
+) -> Result<&'a [Token], ParseError>
+    ensures read { Gives (λ rest. (parts.new, rest.now)) result (spec.function_at unit deep parts.old head.entry.pos head.entry.gives head.entry.name.now params tokens.now) }
+    ensures rest { IfOk result (λ rest. length rest.now ≤ length tokens.now) }
 {
     let left = tokens.len().saturating_add(1);
     let named = named_params(alloc, params.list.as_slice(), left)?;
-    let early = params.early;
-    with_body(
-        alloc, unit, deep, parts, pos, gives, name, named, early, tokens,
-    )
+    with_body(alloc, unit, deep, parts, head, named, params.early, tokens)
 }
 
 fn kinds_of(alloc: Global, params: &[Param]) -> Result<Items<Kind>, AllocError>
@@ -118,23 +127,22 @@ fn kinds_of(alloc: Global, params: &[Param]) -> Result<Items<Kind>, AllocError>
     Ok(kinds)
 }
 
-fn prototype(
+// Adds a prototype to the declarations.
+fn add_prototype(
     alloc: Global,
-    parts: Parts,
-    pos: Pos,
-    gives: bool,
-    name: Name,
+    parts: &mut Parts,
+    head: Head<'_>,
     params: Params,
-) -> Result<Parts, AllocError>
-    ensures { IfOk result (λ x. x ≡ spec.with_prototype parts pos gives name params) }
+) -> Result<(), AllocError>
+    ensures { OnOk result (parts.new ≡ spec.with_prototype parts.old head.entry.pos head.entry.gives head.entry.name.now params) }
 {
     let proto = Proto {
-        name,
+        name: head.name.copy(alloc)?,
         params: kinds_of(alloc, params.list.as_slice())?,
-        gives,
-        pos,
+        gives: head.gives,
+        pos: head.pos,
     };
-    parts.with_proto(proto, params.early)
+    parts.add_proto(proto, params.early)
 }
 
 /// A prototype or a function, behind the opening bracket of its parameters.
@@ -143,22 +151,20 @@ pub fn headed<'a>(
     alloc: Global,
     unit: Unit,
     deep: u32,
-    parts: Parts,
-    pos: Pos,
-    gives: bool,
-    name: Name,
+    parts: &mut Parts,
+    head: Head<'_>,
     tokens: &'a [Token],
-) -> Result<(Parts, &'a [Token]), ParseError>
-    ensures read { Gives (λ x. (x.0, x.1.now)) result (spec.headed unit deep parts pos gives name tokens.now) }
-    ensures rest { IfOk result (λ x. length x.1.now < length tokens.now) }
+) -> Result<&'a [Token], ParseError>
+    ensures read { Gives (λ rest. (parts.new, rest.now)) result (spec.headed unit deep parts.old head.entry.pos head.entry.gives head.entry.name.now tokens.now) }
+    ensures rest { IfOk result (λ rest. length rest.now < length tokens.now) }
 {
-    let (params, rest) = params_at(alloc, pos, tokens)?;
+    let (params, rest) = params_at(alloc, head.pos, tokens)?;
     if let Some(behind) = skip(punctuator::SEMICOLON, rest) {
-        let parts = prototype(alloc, parts, pos, gives, name, params)?;
-        return Ok((parts, behind));
+        add_prototype(alloc, parts, head, params)?;
+        return Ok(behind);
     }
     match skip(punctuator::BRACE_OPEN, rest) {
-        Some(inside) => function_at(alloc, unit, deep, parts, pos, gives, name, params, inside),
+        Some(inside) => function_at(alloc, unit, deep, parts, head, params, inside),
         None => Err(ParseError::Syntax(rest.len())),
     }
 }

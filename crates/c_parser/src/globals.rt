@@ -1,6 +1,6 @@
 //! Globals, behind their name or their pointer.
 
-ghost use Rattle.std.specs.Prelude.{[], ◌≡◌, ◌<◌, ◌≤◌, ◌+◌, ◌^◌, length, IfOk};
+ghost use Rattle.std.specs.Prelude.{[], ◌≡◌, ◌<◌, ◌≤◌, ◌+◌, ◌^◌, length, IfOk, OnOk};
 ghost use Rattle.c_expressions.specs.Code.ParseSteps.{Gives, separated};
 ghost use Rattle.c_parser.specs.Code.UnitReading as spec;
 ghost use Rattle.c_grammar.specs.Units as units;
@@ -36,61 +36,57 @@ fn signed_at(tokens: &[Token]) -> Result<(i32, &[Token]), ParseError>
     }
 }
 
-// Up to the semicolon.
-fn ended(parts: Parts, tokens: &[Token]) -> Result<(Parts, &[Token]), ParseError>
-    ensures read { Gives (λ x. (x.0, x.1.now)) result (spec.ended parts tokens.now) }
-    ensures rest { IfOk result (λ x. length x.1.now < length tokens.now) }
-{
-    let rest = after(punctuator::SEMICOLON, tokens)?;
-    Ok((parts, rest))
-}
-
-fn with_number(
+fn add_number(
     alloc: Global,
-    parts: Parts,
+    parts: &mut Parts,
     pos: Pos,
-    name: Name,
+    name: &Name,
     value: i32,
-) -> Result<Parts, AllocError>
-    ensures { IfOk result (λ x. x ≡ units.with_number parts pos name value) }
+) -> Result<(), AllocError>
+    ensures { OnOk result (parts.new ≡ units.with_number parts.old pos name.now value) }
 {
     let global = GlobalVar {
-        name,
+        name: name.copy(alloc)?,
         shape: Shape::Int(value),
         pos,
     };
-    parts.with_global(global, 1, Items::new(alloc))
+    parts.add_global(global, 1, Items::new(alloc))
 }
 
 /// An `int`, behind its name.
 #[tactic(auto, unfolding(crate::specs::Code::UnitReading::number_global))]
 pub fn number_global<'a>(
     alloc: Global,
-    parts: Parts,
+    parts: &mut Parts,
     pos: Pos,
-    name: Name,
+    name: &Name,
     tokens: &'a [Token],
-) -> Result<(Parts, &'a [Token]), ParseError>
-    ensures read { Gives (λ x. (x.0, x.1.now)) result (spec.number_global parts pos name tokens.now) }
-    ensures rest { IfOk result (λ x. length x.1.now < length tokens.now) }
+) -> Result<&'a [Token], ParseError>
+    ensures read { Gives (λ rest. (parts.new, rest.now)) result (spec.number_global parts.old pos name.now tokens.now) }
+    ensures rest { IfOk result (λ rest. length rest.now < length tokens.now) }
 {
     match skip(punctuator::EQUALS, tokens) {
         Some(given) => {
-            let (value, rest) = signed_at(given)?;
-            ended(with_number(alloc, parts, pos, name, value)?, rest)
+            let (value, end) = signed_at(given)?;
+            let rest = after(punctuator::SEMICOLON, end)?;
+            add_number(alloc, parts, pos, name, value)?;
+            Ok(rest)
         }
-        None => ended(with_number(alloc, parts, pos, name, 0)?, tokens),
+        None => {
+            let rest = after(punctuator::SEMICOLON, tokens)?;
+            add_number(alloc, parts, pos, name, 0)?;
+            Ok(rest)
+        }
     }
 }
 
-fn value(values: Items<i32>, tokens: &[Token]) -> Result<(Items<i32>, &[Token]), ParseError>
-    ensures read { Gives (λ x. (x.0, x.1.now)) result (spec.value values tokens.now) }
-    ensures rest { IfOk result (λ x. length x.1.now < length tokens.now) }
+fn value<'a>(values: &mut Items<i32>, tokens: &'a [Token]) -> Result<&'a [Token], ParseError>
+    ensures read { Gives (λ rest. (values.new, rest.now)) result (spec.value values.old tokens.now) }
+    ensures rest { IfOk result (λ rest. length rest.now < length tokens.now) }
 {
     let (number, rest) = signed_at(tokens)?;
-    let mut all = values;
-    all.push(number)?;
-    Ok((all, rest))
+    values.push(number)?;
+    Ok(rest)
 }
 
 fn values(alloc: Global, tokens: &[Token]) -> Result<(Items<i32>, &[Token]), ParseError>
@@ -100,13 +96,10 @@ fn values(alloc: Global, tokens: &[Token]) -> Result<(Items<i32>, &[Token]), Par
     let mut all = Items::new(alloc);
     let mut rest = tokens;
     loop {
-        let next = value(all, rest)?;
-        match skip(punctuator::COMMA, next.1) {
-            None => return Ok(next),
-            Some(others) => {
-                all = next.0;
-                rest = others;
-            }
+        let next = value(&mut all, rest)?;
+        match skip(punctuator::COMMA, next) {
+            None => return Ok((all, next)),
+            Some(others) => rest = others,
         }
     }
 }
@@ -146,44 +139,46 @@ fn kept_values(
     Ok(kept)
 }
 
-fn with_array(
+fn add_array(
     alloc: Global,
-    parts: Parts,
+    parts: &mut Parts,
     pos: Pos,
-    name: Name,
+    name: &Name,
     size: u32,
     values: Items<i32>,
-) -> Result<Parts, AllocError>
-    ensures { IfOk result (λ x. x ≡ units.with_array parts pos name size values) }
+) -> Result<(), AllocError>
+    ensures { OnOk result (parts.new ≡ units.with_array parts.old pos name.now size values) }
 {
     let early = array_refusals(alloc, pos, parts.room(), size, values.len())?;
     let kept = kept_values(alloc, &early, size, values)?;
     let global = GlobalVar {
-        name,
+        name: name.copy(alloc)?,
         shape: Shape::Arr(kept),
         pos,
     };
-    parts.with_global(global, size, early)
+    parts.add_global(global, size, early)
 }
 
 /// An array, behind its opening bracket.
 #[tactic(auto, unfolding(crate::specs::Code::UnitReading::array_global))]
 pub fn array_global<'a>(
     alloc: Global,
-    parts: Parts,
+    parts: &mut Parts,
     pos: Pos,
-    name: Name,
+    name: &Name,
     tokens: &'a [Token],
-) -> Result<(Parts, &'a [Token]), ParseError>
-    ensures read { Gives (λ x. (x.0, x.1.now)) result (spec.array_global parts pos name tokens.now) }
-    ensures rest { IfOk result (λ x. length x.1.now < length tokens.now) }
+) -> Result<&'a [Token], ParseError>
+    ensures read { Gives (λ rest. (parts.new, rest.now)) result (spec.array_global parts.old pos name.now tokens.now) }
+    ensures rest { IfOk result (λ rest. length rest.now < length tokens.now) }
 {
     let Some((size, closing)) = number_at(tokens) else {
         return Err(ParseError::Syntax(tokens.len()));
     };
     let start = after(punctuator::SQUARE_CLOSE, closing)?;
-    let (values, rest) = values_at(alloc, start)?;
-    ended(with_array(alloc, parts, pos, name, size, values)?, rest)
+    let (values, end) = values_at(alloc, start)?;
+    let rest = after(punctuator::SEMICOLON, end)?;
+    add_array(alloc, parts, pos, name, size, values)?;
+    Ok(rest)
 }
 
 fn zero_at(tokens: &[Token]) -> Result<&[Token], ParseError>
@@ -211,40 +206,39 @@ fn target_at(alloc: Global, tokens: &[Token]) -> Result<(Option<Name>, &[Token])
     }
 }
 
-fn with_pointer(
+fn add_pointer(
     alloc: Global,
-    parts: Parts,
+    parts: &mut Parts,
     pos: Pos,
-    name: Name,
+    name: &Name,
     arity: u8,
     target: Option<Name>,
-) -> Result<Parts, AllocError>
-    ensures { IfOk result (λ x. x ≡ units.with_pointer parts pos name arity target) }
+) -> Result<(), AllocError>
+    ensures { OnOk result (parts.new ≡ units.with_pointer parts.old pos name.now arity target) }
 {
+    let early = arity_refusals(alloc, pos, arity)?;
     let global = GlobalVar {
-        name,
+        name: name.copy(alloc)?,
         shape: Shape::Fp(arity, target),
         pos,
     };
-    parts.with_global(global, 1, arity_refusals(alloc, pos, arity)?)
+    parts.add_global(global, 1, early)
 }
 
 /// A pointer, behind its `int`.
 #[tactic(auto, unfolding(crate::specs::Code::UnitReading::pointer_global))]
 pub fn pointer_global<'a>(
     alloc: Global,
-    parts: Parts,
+    parts: &mut Parts,
     pos: Pos,
     tokens: &'a [Token],
-) -> Result<(Parts, &'a [Token]), ParseError>
-    ensures read { Gives (λ x. (x.0, x.1.now)) result (spec.pointer_global parts pos tokens.now) }
-    ensures rest { IfOk result (λ x. length x.1.now < length tokens.now) }
+) -> Result<&'a [Token], ParseError>
+    ensures read { Gives (λ rest. (parts.new, rest.now)) result (spec.pointer_global parts.old pos tokens.now) }
+    ensures rest { IfOk result (λ rest. length rest.now < length tokens.now) }
 {
     let pointer = pointer_at(tokens)?;
-    let (target, rest) = target_at(alloc, pointer.rest)?;
-    let name = pointer.name.copy(alloc)?;
-    ended(
-        with_pointer(alloc, parts, pos, name, pointer.arity, target)?,
-        rest,
-    )
+    let (target, end) = target_at(alloc, pointer.rest)?;
+    let rest = after(punctuator::SEMICOLON, end)?;
+    add_pointer(alloc, parts, pos, pointer.name, pointer.arity, target)?;
+    Ok(rest)
 }

@@ -9,7 +9,9 @@ mod laws;
 mod params;
 mod parser;
 mod parts;
+mod text;
 mod units;
 
 pub use laws::{one_program, one_program_of_text, parsed_is_written};
 pub use parser::parse;
+pub use text::parse_text;

@@ -1,6 +1,6 @@
 //! The parameters of a head.
 
-ghost use Rattle.std.specs.Prelude.{[], ◌≡◌, ◌≤◌, ◌<◌, ◌+◌, length, IfOk, option_map};
+ghost use Rattle.std.specs.Prelude.{[], ◌≡◌, ◌≤◌, ◌<◌, ◌+◌, length, IfOk, OnOk, option_map};
 ghost use Rattle.c_expressions.specs.Code.ParseSteps.{Gives, separated};
 ghost use Rattle.c_parser.specs.Code.UnitReading as spec;
 ghost use Rattle.c_grammar.specs.Units as units;
@@ -28,43 +28,57 @@ pub struct Params {
     pub early: Items<Refusal>,
 }
 
-fn with_param(params: Params, param: Param, early: Items<Refusal>) -> Result<Params, AllocError>
-    ensures { IfOk result (λ x. x ≡ spec.with_param params param early) }
-{
-    let mut list = params.list;
-    list.push(param)?;
-    let mut all = params.early;
-    all.append(early)?;
-    Ok(Params { list, early: all })
+impl Params {
+    /// No parameters. It takes no memory.
+    fn new(alloc: Global) -> Params
+        ensures { result ≡ spec.no_params }
+    {
+        Params {
+            list: Items::new(alloc),
+            early: Items::new(alloc),
+        }
+    }
+
+    /// Adds a parameter. The only error is want of memory.
+    fn add(&mut self, param: Param, early: Items<Refusal>) -> Result<(), AllocError>
+        ensures { OnOk result (self.new ≡ spec.with_param self.old param early) }
+    {
+        self.list.push(param)?;
+        self.early.append(early)
+    }
+
+    fn add_int(&mut self, alloc: Global, name: Option<Name>) -> Result<(), AllocError>
+        ensures { OnOk result (self.new ≡ spec.with_param self.old (spec.int_param name) []) }
+    {
+        let param = Param {
+            kind: Kind::Int,
+            name,
+        };
+        self.add(param, Items::new(alloc))
+    }
 }
 
-fn with_int(alloc: Global, params: Params, name: Option<Name>) -> Result<Params, AllocError>
-    ensures { IfOk result (λ x. x ≡ spec.with_param params (spec.int_param name) []) }
-{
-    let param = Param {
-        kind: Kind::Int,
-        name,
-    };
-    with_param(params, param, Items::new(alloc))
-}
-
+// One parameter, which is added to those before it.
 #[tactic(auto, unfolding(crate::specs::Code::UnitReading::param))]
 fn parameter<'a>(
     alloc: Global,
     pos: Pos,
-    params: Params,
+    params: &mut Params,
     tokens: &'a [Token],
-) -> Result<(Params, &'a [Token]), ParseError>
-    ensures read { Gives (λ x. (x.0, x.1.now)) result (spec.param pos params tokens.now) }
-    ensures rest { IfOk result (λ x. length x.1.now < length tokens.now) }
+) -> Result<&'a [Token], ParseError>
+    ensures read { Gives (λ rest. (params.new, rest.now)) result (spec.param pos params.old tokens.now) }
+    ensures rest { IfOk result (λ rest. length rest.now < length tokens.now) }
 {
     let rest = after_key(keyword::INT, tokens)?;
     if let Some((name, rest)) = name_at(rest) {
-        let params = with_int(alloc, params, Some(name.copy(alloc)?))?;
-        return Ok((params, rest));
+        params.add_int(alloc, Some(name.copy(alloc)?))?;
+        return Ok(rest);
     }
     match skip(punctuator::ROUND_OPEN, rest) {
-        None => Ok((with_int(alloc, params, None)?, rest)),
+        None => {
+            params.add_int(alloc, None)?;
+            Ok(rest)
+        }
         Some(_) => pointer_param(alloc, pos, params, rest),
     }
 }
@@ -72,11 +86,11 @@ fn parameter<'a>(
 fn pointer_param<'a>(
     alloc: Global,
     pos: Pos,
-    params: Params,
+    params: &mut Params,
     tokens: &'a [Token],
-) -> Result<(Params, &'a [Token]), ParseError>
-    ensures read { Gives (λ x. (x.0, x.1.now)) result (spec.pointer_param pos params tokens.now) }
-    ensures rest { IfOk result (λ x. length x.1.now < length tokens.now) }
+) -> Result<&'a [Token], ParseError>
+    ensures read { Gives (λ rest. (params.new, rest.now)) result (spec.pointer_param pos params.old tokens.now) }
+    ensures rest { IfOk result (λ rest. length rest.now < length tokens.now) }
 {
     let pointer = pointer_at(tokens)?;
     let early = arity_refusals(alloc, pos, pointer.arity)?;
@@ -84,33 +98,22 @@ fn pointer_param<'a>(
         kind: Kind::Fp(pointer.arity),
         name: Some(pointer.name.copy(alloc)?),
     };
-    Ok((with_param(params, param, early)?, pointer.rest))
+    params.add(param, early)?;
+    Ok(pointer.rest)
 }
 
 fn several(alloc: Global, pos: Pos, tokens: &[Token]) -> Result<(Params, &[Token]), ParseError>
     ensures read { Gives (λ x. (x.0, x.1.now)) result (separated (spec.param pos) (length tokens.now + 1) spec.no_params tokens.now) }
     ensures rest { IfOk result (λ x. length x.1.now < length tokens.now) }
 {
-    let mut params = no_params(alloc);
+    let mut params = Params::new(alloc);
     let mut rest = tokens;
     loop {
-        let next = parameter(alloc, pos, params, rest)?;
-        match skip(punctuator::COMMA, next.1) {
-            None => return Ok(next),
-            Some(others) => {
-                params = next.0;
-                rest = others;
-            }
+        let next = parameter(alloc, pos, &mut params, rest)?;
+        match skip(punctuator::COMMA, next) {
+            None => return Ok((params, next)),
+            Some(others) => rest = others,
         }
-    }
-}
-
-fn no_params(alloc: Global) -> Params
-    ensures { result ≡ spec.no_params }
-{
-    Params {
-        list: Items::new(alloc),
-        early: Items::new(alloc),
     }
 }
 
@@ -125,10 +128,10 @@ pub fn params_at(
     ensures rest { IfOk result (λ x. length x.1.now < length tokens.now) }
 {
     if let Some(rest) = skip(punctuator::ROUND_CLOSE, tokens) {
-        return Ok((no_params(alloc), rest));
+        return Ok((Params::new(alloc), rest));
     }
     match skip_key(keyword::VOID, tokens) {
-        Some(inside) => Ok((no_params(alloc), after(punctuator::ROUND_CLOSE, inside)?)),
+        Some(inside) => Ok((Params::new(alloc), after(punctuator::ROUND_CLOSE, inside)?)),
         None => {
             let (params, closing) = several(alloc, pos, tokens)?;
             Ok((params, after(punctuator::ROUND_CLOSE, closing)?))

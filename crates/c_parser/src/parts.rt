@@ -1,6 +1,6 @@
 //! What the declarations of a unit have given so far.
 
-ghost use Rattle.std.specs.Prelude.{◌≡◌, [], ◌∷◌, length, IfOk};
+ghost use Rattle.std.specs.Prelude.{◌≡◌, [], ◌∷◌, length, IfOk, OnOk};
 ghost use Rattle.c_grammar.specs.Grammar as grammar;
 ghost use Rattle.c_grammar.specs.Units as spec;
 ghost use Rattle.c_grammar.specs.Scopes as scopes;
@@ -68,64 +68,34 @@ impl Parts {
         self.room
     }
 
-    /// With a global of so many cells.
-    pub fn with_global(
-        self,
+    /// Adds a global of so many cells. The only error is want of memory.
+    pub fn add_global(
+        &mut self,
         global: GlobalVar,
         cells: u32,
         early: Items<Refusal>,
-    ) -> Result<Parts, AllocError>
-        ensures { IfOk result (λ x. x ≡ spec.with_global self global cells early) }
+    ) -> Result<(), AllocError>
+        ensures { OnOk result (self.new ≡ spec.with_global self.old global cells early) }
     {
-        let mut globals = self.globals;
-        globals.push(global)?;
-        let mut early_globals = self.early_globals;
-        early_globals.append(early)?;
-        Ok(Parts {
-            globals,
-            protos: self.protos,
-            funcs: self.funcs,
-            room: self.room.saturating_sub(cells),
-            early_globals,
-            early_protos: self.early_protos,
-            early_funcs: self.early_funcs,
-        })
+        self.globals.push(global)?;
+        self.room = self.room.saturating_sub(cells);
+        self.early_globals.append(early)
     }
 
-    pub fn with_proto(self, proto: Proto, early: Items<Refusal>) -> Result<Parts, AllocError>
-        ensures { IfOk result (λ x. x ≡ spec.with_proto self proto early) }
+    /// Adds a prototype. The only error is want of memory.
+    pub fn add_proto(&mut self, proto: Proto, early: Items<Refusal>) -> Result<(), AllocError>
+        ensures { OnOk result (self.new ≡ spec.with_proto self.old proto early) }
     {
-        let mut protos = self.protos;
-        protos.push(proto)?;
-        let mut early_protos = self.early_protos;
-        early_protos.append(early)?;
-        Ok(Parts {
-            globals: self.globals,
-            protos,
-            funcs: self.funcs,
-            room: self.room,
-            early_globals: self.early_globals,
-            early_protos,
-            early_funcs: self.early_funcs,
-        })
+        self.protos.push(proto)?;
+        self.early_protos.append(early)
     }
 
-    pub fn with_func(self, func: Func, early: Items<Refusal>) -> Result<Parts, AllocError>
-        ensures { IfOk result (λ x. x ≡ spec.with_func self func early) }
+    /// Adds a function. The only error is want of memory.
+    pub fn add_func(&mut self, func: Func, early: Items<Refusal>) -> Result<(), AllocError>
+        ensures { OnOk result (self.new ≡ spec.with_func self.old func early) }
     {
-        let mut funcs = self.funcs;
-        funcs.push(func)?;
-        let mut early_funcs = self.early_funcs;
-        early_funcs.append(early)?;
-        Ok(Parts {
-            globals: self.globals,
-            protos: self.protos,
-            funcs,
-            room: self.room,
-            early_globals: self.early_globals,
-            early_protos: self.early_protos,
-            early_funcs,
-        })
+        self.funcs.push(func)?;
+        self.early_funcs.append(early)
     }
 
     /// The program of all declarations.

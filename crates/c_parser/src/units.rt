@@ -5,7 +5,7 @@ ghost use Rattle.c_expressions.specs.Code.ParseSteps.{Gives};
 ghost use Rattle.c_parser.specs.Code.UnitReading as spec;
 ghost use Rattle.c_grammar.specs.Units as units;
 
-use crate::functions::headed;
+use crate::functions::{Head, headed};
 use crate::globals::{array_global, number_global, pointer_global};
 use crate::parts::Parts;
 use c_expressions::front::{after, name_at, skip};
@@ -19,16 +19,21 @@ fn named<'a>(
     alloc: Global,
     unit: Unit,
     deep: u32,
-    parts: Parts,
+    parts: &mut Parts,
     pos: Pos,
-    name: Name,
+    name: &Name,
     tokens: &'a [Token],
-) -> Result<(Parts, &'a [Token]), ParseError>
-    ensures read { Gives (λ x. (x.0, x.1.now)) result (spec.named unit deep parts pos name tokens.now) }
-    ensures rest { IfOk result (λ x. length x.1.now < length tokens.now) }
+) -> Result<&'a [Token], ParseError>
+    ensures read { Gives (λ rest. (parts.new, rest.now)) result (spec.named unit deep parts.old pos name.now tokens.now) }
+    ensures rest { IfOk result (λ rest. length rest.now < length tokens.now) }
 {
     if let Some(inside) = skip(punctuator::ROUND_OPEN, tokens) {
-        return headed(alloc, unit, deep, parts, pos, true, name, inside);
+        let head = Head {
+            pos,
+            gives: true,
+            name,
+        };
+        return headed(alloc, unit, deep, parts, head, inside);
     }
     match skip(punctuator::SQUARE_OPEN, tokens) {
         Some(inside) => array_global(alloc, parts, pos, name, inside),
@@ -42,15 +47,15 @@ fn int_external<'a>(
     alloc: Global,
     unit: Unit,
     deep: u32,
-    parts: Parts,
+    parts: &mut Parts,
     pos: Pos,
     tokens: &'a [Token],
-) -> Result<(Parts, &'a [Token]), ParseError>
-    ensures read { Gives (λ x. (x.0, x.1.now)) result (spec.int_external unit deep parts pos tokens.now) }
-    ensures rest { IfOk result (λ x. length x.1.now < length tokens.now) }
+) -> Result<&'a [Token], ParseError>
+    ensures read { Gives (λ rest. (parts.new, rest.now)) result (spec.int_external unit deep parts.old pos tokens.now) }
+    ensures rest { IfOk result (λ rest. length rest.now < length tokens.now) }
 {
     match name_at(tokens) {
-        Some((name, rest)) => named(alloc, unit, deep, parts, pos, name.copy(alloc)?, rest),
+        Some((name, rest)) => named(alloc, unit, deep, parts, pos, name, rest),
         None => pointer_global(alloc, parts, pos, tokens),
     }
 }
@@ -61,27 +66,23 @@ fn void_external<'a>(
     alloc: Global,
     unit: Unit,
     deep: u32,
-    parts: Parts,
+    parts: &mut Parts,
     pos: Pos,
     tokens: &'a [Token],
-) -> Result<(Parts, &'a [Token]), ParseError>
-    ensures read { Gives (λ x. (x.0, x.1.now)) result (spec.void_external unit deep parts pos tokens.now) }
-    ensures rest { IfOk result (λ x. length x.1.now < length tokens.now) }
+) -> Result<&'a [Token], ParseError>
+    ensures read { Gives (λ rest. (parts.new, rest.now)) result (spec.void_external unit deep parts.old pos tokens.now) }
+    ensures rest { IfOk result (λ rest. length rest.now < length tokens.now) }
 {
     let Some((name, rest)) = name_at(tokens) else {
         return Err(ParseError::Syntax(tokens.len()));
     };
     let inside = after(punctuator::ROUND_OPEN, rest)?;
-    headed(
-        alloc,
-        unit,
-        deep,
-        parts,
+    let head = Head {
         pos,
-        false,
-        name.copy(alloc)?,
-        inside,
-    )
+        gives: false,
+        name,
+    };
+    headed(alloc, unit, deep, parts, head, inside)
 }
 
 #[tactic(auto, unfolding(crate::specs::Code::UnitReading::external))]
@@ -89,11 +90,11 @@ fn external<'a>(
     alloc: Global,
     unit: Unit,
     deep: u32,
-    parts: Parts,
+    parts: &mut Parts,
     tokens: &'a [Token],
-) -> Result<(Parts, &'a [Token]), ParseError>
-    ensures read { Gives (λ x. (x.0, x.1.now)) result (spec.external unit deep parts tokens.now) }
-    ensures rest { IfOk result (λ x. length x.1.now < length tokens.now) }
+) -> Result<&'a [Token], ParseError>
+    ensures read { Gives (λ rest. (parts.new, rest.now)) result (spec.external unit deep parts.old tokens.now) }
+    ensures rest { IfOk result (λ rest. length rest.now < length tokens.now) }
 {
     let [first, rest @ ..] = tokens else {
         return Err(ParseError::Syntax(0));
@@ -111,9 +112,7 @@ fn externals(alloc: Global, unit: Unit, deep: u32, tokens: &[Token]) -> Result<P
     let mut parts = Parts::new(alloc, unit);
     let mut rest = tokens;
     while !rest.is_empty() {
-        let next = external(alloc, unit, deep, parts, rest)?;
-        parts = next.0;
-        rest = next.1;
+        rest = external(alloc, unit, deep, &mut parts, rest)?;
     }
     Ok(parts)
 }

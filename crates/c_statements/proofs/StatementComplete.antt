@@ -16,7 +16,7 @@ use Rattle.c_grammar.specs.Expressions.{Tree, tokens_of, expr_of, IsGrouped}
 use Rattle.c_grammar.specs.Expressions as e
 use Rattle.c_expressions.specs.Code.ExpressionReading.{expr}
 use Rattle.c_grammar.specs.Statements as g
-use Rattle.c_statements.specs.Code.StatementReading.{right_side, call_at, condition, pointer_at, Read, made, assign, assign_element, run, keyword_stmt, named_stmt, declare_int, declare_pointer, return_at, checked, point_at, force_at, One, end_one, one_at, side_of_pick, pick_at, chain, nothing, items_by, items, body_by, body, branch, repeat, stmt_at, stmt}
+use Rattle.c_statements.specs.Code.StatementReading.{right_side, call_at, condition, pointer_at, Read, made, assign, assign_element, run, keyword_stmt, named_stmt, initialized, declare_pointer, return_at, checked, point_at, force_at, One, end_one, one_at, side_of_pick, pick_at, chain, nothing, items_by, items, body_by, body, branch, repeat, stmt_at, stmt}
 use Rattle.c_expressions.proofs.ExpressionComplete.{reads_all, found as found_expr}
 use Rattle.c_statements.proofs.SideComplete.{begins_so, args_again, found_call, call_again, found_side, side_again, cond_again, no_pick, pointer_again}
 
@@ -118,11 +118,11 @@ module _ (inner : Bool → Bool → Scope → List Token → Option Read) (d : �
       rw (index, side_end y u d end rest hy (omega arith)) refl
 
   declaration_again : (l : Bool) (int at is end : At) (x : Bytes) (y : g.SideTree) → g.IsSide u y → g.side_height y ≤ d → Again true l (g.declaration int at x is y end)
-  unfolding stmt_at declare_int
+  unfolding stmt_at initialized
   declaration_again l int at is end x y h high sc rest = rw (side_end y u d end rest h high) refl
 
   local_pointer_again : (l : Bool) (int is end : At) (p : g.PointerTree) (y : g.SideTree) → g.IsSide u y → g.side_height y ≤ d → Again true l (g.pointer int p is y end)
-  unfolding stmt_at declare_pointer
+  unfolding stmt_at declare_pointer initialized
   local_pointer_again l int is end p y h high sc rest =
       let z = g.side_tokens y ++ mark semicolon end ∷ [] in
       let head : pointer_at ((g.pointer_tokens p ++ (mark equals is ∷ z)) ++ rest) ≡ Some (record { name = p.name; arity = g.arity p; rest = mark equals is ∷ (z ++ rest) }) =
@@ -144,6 +144,7 @@ module _ (inner : Bool → Bool → Scope → List Token → Option Read) (d : �
 
   checked_again : (f : Expr → Stmt) (c : g.CondTree) (end : At) (sc : Scope) (rest : List Token) → IsGrouped c.tree → e.height c.tree ≤ d
       → checked f d sc ((g.cond_tokens c ++ mark semicolon end ∷ []) ++ rest) ≡ Some (made (f (expr_of c.tree) ∷ []) (e.height c.tree + 1) sc rest)
+  unfolding checked
   checked_again f c end sc rest h high =
       let head : condition d ((g.cond_tokens c ++ mark semicolon end ∷ []) ++ rest) ≡ Some (found_expr c.tree (mark semicolon end ∷ rest)) = ap (condition d) (append_assoc (g.cond_tokens c) (mark semicolon end ∷ []) rest) ∙ cond_again c d (mark semicolon end ∷ rest) h high in
       rw head refl

@@ -21,7 +21,7 @@ use Rattle.c_grammar.specs.Expressions.{tokens_of, expr_of, IsGrouped}
 use Rattle.c_grammar.specs.Expressions as e
 use Rattle.c_expressions.specs.Code.ExpressionReading.{Found, expr}
 use Rattle.c_grammar.specs.Statements as g
-use Rattle.c_statements.specs.Code.StatementReading.{Called, Side, right_side, call_at, input_at, choice_at, condition, Pointer, pointer_at, Read, made, done, assign, assign_element, run, named_by, named_stmt, declare_int, declare_pointer, declaration, declaration_by, return_by, return_at, checked, point_at, force_at, One, end_one, call_behind, one_by, one_at, side_of_pick_by, side_of_pick, pick_at, updated_at, keyword_stmt, chain, nothing, if_only, if_else, while_loop, items_by, items, body_by, body, else_by, branch, if_by, repeat, key_stmt, stmt_by, stmt_at, stmt}
+use Rattle.c_statements.specs.Code.StatementReading.{Called, Side, right_side, call_at, input_at, choice_at, condition, Pointer, pointer_at, Read, made, done, assign, assign_element, run, named_by, named_stmt, initialized, declare_pointer, declaration, declaration_by, return_by, return_at, checked, point_at, force_at, One, end_one, call_behind, one_by, one_at, side_of_pick_by, side_of_pick, pick_at, updated_at, keyword_stmt, chain, nothing, if_only, if_else, while_loop, items_by, items, body_by, body, else_by, branch, if_by, repeat, key_stmt, stmt_by, stmt_at, stmt}
 use Rattle.c_expressions.proofs.OperatorLaws.{chosen}
 use Rattle.c_expressions.proofs.ExpressionSound.{bind_some, some_is, after-is, at_of, reads_trees}
 use Rattle.c_statements.proofs.SideComplete.{found_side}
@@ -127,9 +127,9 @@ module _ (u : Unit) (d : ℕ) where
   named-read m l at x sc [] r q = absurd cc
   named-read m l at x sc (t ∷ ts) r q = named_by-read m l at x sc (at_of t) t.what ts r q
 
-  declare_int-read : (l : Bool) (int at : At) (x : Bytes) (sc : Scope) (ts : List Token) (r : Read) → declare_int u d int.pos x sc ts ≡ Some r → IsSimpleRead u d true l sc (keyword int_key int ∷ token at (w.Ident x) ∷ ts) r
-  unfolding declare_int
-  declare_int-read l int at x sc ts r q =
+  int-read : (l : Bool) (int at : At) (x : Bytes) (sc : Scope) (ts : List Token) (r : Read) → initialized u d int.pos kind.Int x sc ts ≡ Some r → IsSimpleRead u d true l sc (keyword int_key int ∷ token at (w.Ident x) ∷ ts) r
+  unfolding initialized
+  int-read l int at x sc ts r q =
       let make = λ (v : Side) (rest : List Token). made (g.right_to int.pos (dest.Fresh kind.Int x) v.right ∷ []) (v.height + 1) (declare sc x) rest in
       let a = bind_some (after equals ts) (λ a. right_side u d a >>= λ y. done (g.right_to int.pos (dest.Fresh kind.Int x) y.right ∷ []) (y.height + 1) (declare sc x) y.rest) r q in
       let v = bind_some (right_side u d a.0) (λ y. done (g.right_to int.pos (dest.Fresh kind.Int x) y.right ∷ []) (y.height + 1) (declare sc x) y.rest) r a.2 in
@@ -145,7 +145,7 @@ module _ (u : Unit) (d : ℕ) where
       }
 
   declare_pointer-read : (l : Bool) (int : At) (sc : Scope) (ts : List Token) (r : Read) → declare_pointer u d int.pos sc ts ≡ Some r → IsSimpleRead u d true l sc (keyword int_key int ∷ ts) r
-  unfolding declare_pointer
+  unfolding declare_pointer initialized
   declare_pointer-read l int sc ts r q =
       let make = λ (f : Pointer) (v : Side) (rest : List Token). made (g.right_to int.pos (dest.Fresh (kind.Fp f.arity) f.name) v.right ∷ []) (v.height + 1) (refuse_arity (declare sc f.name) int.pos f.arity) rest in
       let go = λ (f : Pointer) (y : Side). done (g.right_to int.pos (dest.Fresh (kind.Fp f.arity) f.name) y.right ∷ []) (y.height + 1) (refuse_arity (declare sc f.name) int.pos f.arity) y.rest in
@@ -172,7 +172,7 @@ module _ (u : Unit) (d : ℕ) where
       either None o q = declare_pointer-read l int sc ts r q
       either (Some x) o q =
           let n = name_at-is ts x o in
-          subst (λ (us : List Token). IsSimpleRead u d true l sc (keyword int_key int ∷ us) r) (sym n.1) (declare_int-read l int n.0 x.0 sc x.1 r q)
+          subst (λ (us : List Token). IsSimpleRead u d true l sc (keyword int_key int ∷ us) r) (sym n.1) (int-read l int n.0 x.0 sc x.1 r q)
 
   return-read : (m l : Bool) (at : At) (sc : Scope) (ts : List Token) (r : Read) → return_at u d at.pos sc ts ≡ Some r → IsSimpleRead u d m l sc (keyword return_key at ∷ ts) r
   unfolding return_at
@@ -205,6 +205,7 @@ module _ (u : Unit) (d : ℕ) where
     same : made (f (expr_of tree.tree) ∷ []) (e.height tree.tree + 1) sc r.rest ≡ r
 
   checked-read : (f : Expr → Stmt) (sc : Scope) (ts : List Token) (r : Read) → checked f d sc ts ≡ Some r → IsCheckedRead f sc ts r
+  unfolding checked
   checked-read f sc ts r q =
       let a = bind_some (condition d ts) (λ c. done (f c.expr ∷ []) (c.height + 1) sc c.rest) r q in
       let c = cond-read d ts a.0 a.1 in

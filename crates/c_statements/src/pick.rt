@@ -2,11 +2,12 @@
 
 ghost use Rattle.std.specs.Prelude.{◌≡◌, ◌≤◌, ◌<◌, ◌+◌, ◌-◌, ◌^◌, length, IfOk, IfSome, Some, option_map};
 ghost use Rattle.c_expressions.specs.Code.ParseSteps.{Gives};
+ghost use Rattle.c_grammar.specs.Scopes as scopes;
 ghost use Rattle.c_statements.specs.Code.StatementReading as spec;
-ghost use Rattle.c_statements.specs.Code.Seen.{seen_called, seen_one, seen_scope, seen_read, IsWithin};
+ghost use Rattle.c_statements.specs.Code.Seen.{seen_called, seen_one, seen_read};
 
 use crate::right::{Called, call_at};
-use crate::scope::{Scope, is_client};
+use crate::scope::is_client;
 use crate::simple::{Parsed, call_to, only};
 use c_expressions::front::{after, after_key, name_at, skip, skip_key};
 use c_expressions::parse_error::ParseError;
@@ -116,51 +117,36 @@ pub fn updated_at(tokens: &[Token]) -> Option<&[Token]>
     skip_key(keyword::DSU_UPDATED, skip(punctuator::ROUND_OPEN, tokens)?)
 }
 
-fn picked<'a>(
-    alloc: Global,
-    pos: Pos,
-    scope: Scope,
-    later: One<'_>,
-    earlier: One<'a>,
-) -> Result<Parsed<'a>, AllocError>
-    requires later { later.height + 1 < 2 ^ 32 }
-    requires earlier { earlier.height + 1 < 2 ^ 32 }
-    ensures read { IfOk result (λ x. seen_read x ≡ spec.picked pos (seen_scope scope) (seen_one later.entry) (seen_one earlier.entry)) }
-    ensures count { IfOk result (λ x. x.scope.count ≡ scope.count) }
-{
-    let height = later.height.max(earlier.height) + 1;
-    Ok(Parsed {
-        stmts: only(
-            alloc,
-            Stmt::Pick {
-                pos,
-                after: later.stmt,
-                before: earlier.stmt,
-            },
-        )?,
-        height,
-        is_open: false,
-        scope,
-        rest: earlier.rest,
-    })
-}
-
 /// `below` bounds the height of a call alone.
 fn pick_sides(
     alloc: Global,
     below: u32,
     pos: Pos,
-    scope: Scope,
     tokens: &[Token],
 ) -> Result<Parsed<'_>, ParseError>
     requires { below + 2 < 2 ^ 32 }
-    ensures read { Gives seen_read result (spec.pick_sides below pos (seen_scope scope) tokens.now) }
-    ensures within { IfOk result (λ x. IsWithin (below + 2) scope tokens.now x) }
+    ensures read { (scope : scopes.Scope) → Gives (seen_read scope) result (spec.pick_sides below pos scope tokens.now) }
+    ensures height { IfOk result (λ x. x.height ≤ below + 2) }
+    ensures rest { IfOk result (λ x. length x.rest.now < length tokens.now) }
 {
     let later = side_of_pick(alloc, below, tokens)?;
     let other = after_key(keyword::ELSE, later.rest)?;
     let earlier = side_of_pick(alloc, below, other)?;
-    Ok(picked(alloc, pos, scope, later, earlier)?)
+    let height = later.height.max(earlier.height) + 1;
+    let stmts = only(
+        alloc,
+        Stmt::Pick {
+            pos,
+            after: later.stmt,
+            before: earlier.stmt,
+        },
+    )?;
+    Ok(Parsed {
+        stmts,
+        height,
+        is_open: false,
+        rest: earlier.rest,
+    })
 }
 
 /// A pick, behind `if (dsu_updated`.
@@ -170,12 +156,12 @@ pub fn pick_at(
     unit: Unit,
     below: u32,
     pos: Pos,
-    scope: Scope,
     tokens: &[Token],
 ) -> Result<Parsed<'_>, ParseError>
-    requires deep { below + 1 < 2 ^ 32 }
-    ensures read { Gives seen_read result (spec.pick_at unit below pos (seen_scope scope) tokens.now) }
-    ensures within { IfOk result (λ x. IsWithin (below + 1) scope tokens.now x) }
+    requires { below + 1 < 2 ^ 32 }
+    ensures read { (scope : scopes.Scope) → Gives (seen_read scope) result (spec.pick_at unit below pos scope tokens.now) }
+    ensures height { IfOk result (λ x. x.height ≤ below + 1) }
+    ensures rest { IfOk result (λ x. length x.rest.now < length tokens.now) }
 {
     if !is_client(unit) || below < 3 {
         return Err(ParseError::Syntax(tokens.len() + 1));
@@ -183,5 +169,5 @@ pub fn pick_at(
     let opened = after(punctuator::ROUND_OPEN, tokens)?;
     let closed = after(punctuator::ROUND_CLOSE, opened)?;
     let inside = after(punctuator::ROUND_CLOSE, closed)?;
-    pick_sides(alloc, below - 1, pos, scope, inside)
+    pick_sides(alloc, below - 1, pos, inside)
 }

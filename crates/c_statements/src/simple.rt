@@ -1,18 +1,16 @@
 //! Statements and declarations that have no bodies.
 
-ghost use Rattle.std.specs.Prelude.{[], ◌∷◌, ◌≡◌, ◌≤◌, ◌<◌, ◌+◌, ◌^◌, length, IfOk, Some};
+ghost use Rattle.std.specs.Prelude.{[], ◌∷◌, ◌≡◌, ◌≤◌, ◌<◌, ◌+◌, ◌^◌, length, IfOk, OnOk, Some};
 ghost use Rattle.c_expressions.specs.Code.ParseSteps.{Gives};
 ghost use Rattle.c_grammar.specs.Scopes as scopes;
 ghost use Rattle.c_grammar.specs.Statements as grammar;
 ghost use Rattle.c_statements.specs.Code.StatementReading as spec;
 ghost use Rattle.c_expressions.specs.Code.Seen.{seen};
-ghost use Rattle.c_statements.specs.Code.Seen.{seen_scope, seen_called, seen_read, IsWithin};
+ghost use Rattle.c_statements.specs.Code.Seen.{seen_called, seen_read, IsWithin};
 
-use crate::pointer::pointer_at;
+use crate::pointer::{Pointer, pointer_at};
 use crate::right::{Called, call_at, right_side};
-use crate::scope::{
-    Scope, declare, is_client, is_declared, is_merge, one_more, refuse_arity, temporary,
-};
+use crate::scope::{Scope, is_client, is_merge};
 use c_expressions::expressions::{Found, expression};
 use c_expressions::front::{after, name_at, number_at, skip};
 use c_expressions::parse_error::ParseError;
@@ -28,7 +26,6 @@ pub struct Parsed<'a> {
     pub stmts: Items<Stmt>,
     pub height: u32,
     pub is_open: bool,
-    pub scope: Scope,
     pub rest: &'a [Token],
 }
 
@@ -41,15 +38,9 @@ pub fn only(alloc: Global, stmt: Stmt) -> Result<Items<Stmt>, AllocError>
 }
 
 /// Up to the semicolon.
-pub fn done(
-    stmts: Items<Stmt>,
-    height: u32,
-    scope: Scope,
-    tokens: &[Token],
-) -> Result<Parsed<'_>, ParseError>
-    ensures read { Gives seen_read result (spec.done stmts height (seen_scope scope) tokens.now) }
+fn done(stmts: Items<Stmt>, height: u32, tokens: &[Token]) -> Result<Parsed<'_>, ParseError>
+    ensures read { (scope : scopes.Scope) → Gives (seen_read scope) result (spec.done stmts height scope tokens.now) }
     ensures height { IfOk result (λ x. x.height ≡ height) }
-    ensures count { IfOk result (λ x. x.scope.count ≡ scope.count) }
     ensures rest { IfOk result (λ x. length x.rest.now < length tokens.now) }
 {
     let rest = after(punctuator::SEMICOLON, tokens)?;
@@ -57,9 +48,22 @@ pub fn done(
         stmts,
         height,
         is_open: false,
-        scope,
         rest,
     })
+}
+
+/// One statement, up to its semicolon.
+pub fn single(
+    alloc: Global,
+    stmt: Stmt,
+    height: u32,
+    tokens: &[Token],
+) -> Result<Parsed<'_>, ParseError>
+    ensures read { (scope : scopes.Scope) → Gives (seen_read scope) result (spec.done (stmt ∷ []) height scope tokens.now) }
+    ensures height { IfOk result (λ x. x.height ≡ height) }
+    ensures rest { IfOk result (λ x. length x.rest.now < length tokens.now) }
+{
+    done(only(alloc, stmt)?, height, tokens)
 }
 
 pub fn call_to(pos: Pos, dest: Dest, call: Call) -> Stmt
@@ -90,51 +94,40 @@ fn right_to(pos: Pos, dest: Dest, right: Right) -> Stmt
     }
 }
 
-/// The statement that stores a call's result in the temporary of this number, and the temporary.
+/// The statement that stores a call's result in the next temporary, and the temporary.
 fn to_temporary(
     alloc: Global,
     pos: Pos,
-    number: u64,
+    scope: &mut Scope,
     call: Call,
 ) -> Result<(Items<Stmt>, Boxed<Expr>), AllocError>
-    ensures stmts { IfOk result (λ x. x.0 ≡ grammar.call_to pos (Dest.Fresh Kind.Int (scopes.temporary number)) call ∷ []) }
-    ensures value { IfOk result (λ x. x.1 ≡ Expr.Var (scopes.temporary number)) }
+    requires { scope.old.count + 1 < 2 ^ 64 }
+    ensures stmts { IfOk result (λ x. x.0 ≡ grammar.call_to pos (Dest.Fresh Kind.Int (scopes.temporary (scope.old.count + 1))) call ∷ []) }
+    ensures value { IfOk result (λ x. x.1 ≡ Expr.Var (scopes.temporary (scope.old.count + 1))) }
+    ensures scope { OnOk result (scope.new ≡ scopes.one_more scope.old) }
 {
-    let name = temporary(alloc, number)?;
+    let name = scope.next_temporary(alloc)?;
     let value = Boxed::new(alloc, Expr::Var(name.copy(alloc)?))?;
     let stmts = only(alloc, call_to(pos, Dest::Fresh(Kind::Int, name), call))?;
     Ok((stmts, value))
 }
 
-/// A right side's value, with the statement before that stores a call's result in a temporary.
-#[derive(Drop)]
-struct Stored {
-    before: Items<Stmt>,
-    value: Boxed<Expr>,
-    scope: Scope,
-}
-
-fn store(alloc: Global, pos: Pos, scope: Scope, right: Right) -> Result<Stored, AllocError>
-    requires { scope.count + 1 < 2 ^ 64 }
-    ensures before { IfOk result (λ x. x.before ≡ (grammar.stored pos (seen_scope scope) right).before) }
-    ensures value { IfOk result (λ x. x.value ≡ (grammar.stored pos (seen_scope scope) right).value) }
-    ensures scope { IfOk result (λ x. seen_scope x.scope ≡ (grammar.stored pos (seen_scope scope) right).scope) }
-    ensures count { IfOk result (λ x. x.scope.count ≤ scope.count + 1) }
+/// A right side's value, behind the statement that stores a call's result in a temporary.
+fn store(
+    alloc: Global,
+    pos: Pos,
+    scope: &mut Scope,
+    right: Right,
+) -> Result<(Items<Stmt>, Boxed<Expr>), AllocError>
+    requires { scope.old.count + 1 < 2 ^ 64 }
+    ensures before { IfOk result (λ x. x.0 ≡ (grammar.stored pos scope.old right).before) }
+    ensures value { IfOk result (λ x. x.1 ≡ (grammar.stored pos scope.old right).value) }
+    ensures scope { OnOk result (scope.new ≡ (grammar.stored pos scope.old right).scope) }
+    ensures count { OnOk result (scope.new.count ≤ scope.old.count + 1) }
 {
     match right {
-        Right::Value(value) => Ok(Stored {
-            before: Items::new(alloc),
-            value,
-            scope,
-        }),
-        Right::Call(call) => {
-            let (before, value) = to_temporary(alloc, pos, scope.count + 1, call)?;
-            Ok(Stored {
-                before,
-                value,
-                scope: one_more(scope),
-            })
-        }
+        Right::Value(value) => Ok((Items::new(alloc), value)),
+        Right::Call(call) => to_temporary(alloc, pos, scope, call),
     }
 }
 
@@ -142,26 +135,24 @@ fn set(
     alloc: Global,
     pos: Pos,
     name: Name,
-    scope: Scope,
+    scope: &mut Scope,
     right: Right,
-) -> Result<(Items<Stmt>, Scope), AllocError>
-    requires { scope.count + 1 < 2 ^ 64 }
-    ensures stmts { IfOk result (λ x. x.0 ≡ grammar.set_stmts pos name (seen_scope scope) right) }
-    ensures scope { IfOk result (λ x. seen_scope x.1 ≡ grammar.set_scope pos name (seen_scope scope) right) }
-    ensures count { IfOk result (λ x. x.1.count ≤ scope.count + 1) }
+) -> Result<Items<Stmt>, AllocError>
+    requires { scope.old.count + 1 < 2 ^ 64 }
+    ensures stmts { IfOk result (λ x. x ≡ grammar.set_stmts pos name scope.old right) }
+    ensures scope { OnOk result (scope.new ≡ grammar.set_scope pos name scope.old right) }
+    ensures count { OnOk result (scope.new.count ≤ scope.old.count + 1) }
 {
-    if is_declared(&scope, &name) {
-        let stmts = only(alloc, right_to(pos, Dest::Into(name), right))?;
-        return Ok((stmts, scope));
+    if scope.is_declared(&name) {
+        return only(alloc, right_to(pos, Dest::Into(name), right));
     }
-    let stored = store(alloc, pos, scope, right)?;
-    let mut stmts = stored.before;
+    let (mut stmts, value) = store(alloc, pos, scope, right)?;
     stmts.push(Stmt::Set {
         pos,
         dest: Dest::Into(name),
-        value: stored.value.into_inner(),
+        value: value.into_inner(),
     })?;
-    Ok((stmts, stored.scope))
+    Ok(stmts)
 }
 
 fn set_element(
@@ -169,43 +160,42 @@ fn set_element(
     pos: Pos,
     array: &Name,
     index: Boxed<Expr>,
-    scope: Scope,
+    scope: &mut Scope,
     right: Right,
-) -> Result<(Items<Stmt>, Scope), AllocError>
-    requires { scope.count + 1 < 2 ^ 64 }
-    ensures stmts { IfOk result (λ x. x.0 ≡ grammar.element_stmts pos array.now index (seen_scope scope) right) }
-    ensures scope { IfOk result (λ x. seen_scope x.1 ≡ (grammar.stored pos (seen_scope scope) right).scope) }
-    ensures count { IfOk result (λ x. x.1.count ≤ scope.count + 1) }
+) -> Result<Items<Stmt>, AllocError>
+    requires { scope.old.count + 1 < 2 ^ 64 }
+    ensures stmts { IfOk result (λ x. x ≡ grammar.element_stmts pos array.now index scope.old right) }
+    ensures scope { OnOk result (scope.new ≡ (grammar.stored pos scope.old right).scope) }
+    ensures count { OnOk result (scope.new.count ≤ scope.old.count + 1) }
 {
-    let stored = store(alloc, pos, scope, right)?;
-    let mut stmts = stored.before;
+    let array = array.copy(alloc)?;
+    let (mut stmts, value) = store(alloc, pos, scope, right)?;
     stmts.push(Stmt::SetElem {
         pos,
-        array: array.copy(alloc)?,
+        array,
         index: index.into_inner(),
-        value: stored.value.into_inner(),
+        value: value.into_inner(),
     })?;
-    Ok((stmts, stored.scope))
+    Ok(stmts)
 }
 
 fn returned(
     alloc: Global,
     pos: Pos,
-    scope: Scope,
+    scope: &mut Scope,
     right: Right,
-) -> Result<(Items<Stmt>, Scope), AllocError>
-    requires { scope.count + 1 < 2 ^ 64 }
-    ensures stmts { IfOk result (λ x. x.0 ≡ grammar.return_stmts pos (seen_scope scope) right) }
-    ensures scope { IfOk result (λ x. seen_scope x.1 ≡ (grammar.stored pos (seen_scope scope) right).scope) }
-    ensures count { IfOk result (λ x. x.1.count ≤ scope.count + 1) }
+) -> Result<Items<Stmt>, AllocError>
+    requires { scope.old.count + 1 < 2 ^ 64 }
+    ensures stmts { IfOk result (λ x. x ≡ grammar.return_stmts pos scope.old right) }
+    ensures scope { OnOk result (scope.new ≡ (grammar.stored pos scope.old right).scope) }
+    ensures count { OnOk result (scope.new.count ≤ scope.old.count + 1) }
 {
-    let stored = store(alloc, pos, scope, right)?;
-    let mut stmts = stored.before;
+    let (mut stmts, value) = store(alloc, pos, scope, right)?;
     stmts.push(Stmt::Return {
         pos,
-        value: Some(stored.value.into_inner()),
+        value: Some(value.into_inner()),
     })?;
-    Ok((stmts, stored.scope))
+    Ok(stmts)
 }
 
 /// `NAME = ..;`, behind the `=`.
@@ -216,18 +206,18 @@ fn assign<'a>(
     below: u32,
     pos: Pos,
     name: &Name,
-    scope: Scope,
+    scope: &mut Scope,
     tokens: &'a [Token],
 ) -> Result<Parsed<'a>, ParseError>
     requires deep { below + 1 < 2 ^ 32 }
-    requires count { scope.count + length tokens.now < 2 ^ 64 }
-    ensures read { Gives seen_read result (spec.assign unit below pos name.now (seen_scope scope) tokens.now) }
-    ensures within { IfOk result (λ x. IsWithin (below + 1) scope tokens.now x) }
+    requires count { scope.old.count + length tokens.now < 2 ^ 64 }
+    ensures read { Gives (seen_read scope.new) result (spec.assign unit below pos name.now scope.old tokens.now) }
+    ensures within { IfOk result (λ x. IsWithin (below + 1) scope.old scope.new tokens.now x) }
 {
     let side = right_side(alloc, unit, below, tokens)?;
     let height = side.height + 1;
-    let (stmts, scope) = set(alloc, pos, name.copy(alloc)?, scope, side.right)?;
-    done(stmts, height, scope, side.rest)
+    let stmts = set(alloc, pos, name.copy(alloc)?, scope, side.right)?;
+    done(stmts, height, side.rest)
 }
 
 /// `NAME[..] = ..;`, behind the `[`.
@@ -238,39 +228,32 @@ fn assign_element<'a>(
     below: u32,
     pos: Pos,
     name: &Name,
-    scope: Scope,
+    scope: &mut Scope,
     tokens: &'a [Token],
 ) -> Result<Parsed<'a>, ParseError>
     requires deep { below + 1 < 2 ^ 32 }
-    requires count { scope.count + length tokens.now < 2 ^ 64 }
-    ensures read { Gives seen_read result (spec.assign_element unit below pos name.now (seen_scope scope) tokens.now) }
-    ensures within { IfOk result (λ x. IsWithin (below + 1) scope tokens.now x) }
+    requires count { scope.old.count + length tokens.now < 2 ^ 64 }
+    ensures read { Gives (seen_read scope.new) result (spec.assign_element unit below pos name.now scope.old tokens.now) }
+    ensures within { IfOk result (λ x. IsWithin (below + 1) scope.old scope.new tokens.now x) }
 {
     let index = expression(alloc, below, 1, tokens)?;
     let equals = after(punctuator::SQUARE_CLOSE, index.rest)?;
     let given = after(punctuator::EQUALS, equals)?;
     let side = right_side(alloc, unit, below, given)?;
     let height = index.height.max(side.height) + 1;
-    let (stmts, scope) = set_element(alloc, pos, name, index.expr, scope, side.right)?;
-    done(stmts, height, scope, side.rest)
+    let stmts = set_element(alloc, pos, name, index.expr, scope, side.right)?;
+    done(stmts, height, side.rest)
 }
 
 /// A call whose result goes nowhere.
-pub fn run(
-    alloc: Global,
-    pos: Pos,
-    scope: Scope,
-    called: Called<'_>,
-) -> Result<Parsed<'_>, ParseError>
+pub fn run(alloc: Global, pos: Pos, called: Called<'_>) -> Result<Parsed<'_>, ParseError>
     requires { called.height + 1 < 2 ^ 32 }
-    ensures read { Gives seen_read result (spec.run pos (seen_scope scope) (Some (seen_called called.entry))) }
+    ensures read { (scope : scopes.Scope) → Gives (seen_read scope) result (spec.run pos scope (Some (seen_called called.entry))) }
     ensures height { IfOk result (λ x. x.height ≡ called.entry.height + 1) }
-    ensures count { IfOk result (λ x. x.scope.count ≡ scope.count) }
     ensures rest { IfOk result (λ x. length x.rest.now < length called.entry.rest.now) }
 {
     let height = called.height + 1;
-    let stmts = only(alloc, call_to(pos, Dest::Nowhere, called.call))?;
-    done(stmts, height, scope, called.rest)
+    single(alloc, call_to(pos, Dest::Nowhere, called.call), height, called.rest)
 }
 
 /// A statement that begins with a name, behind the name.
@@ -281,13 +264,13 @@ pub fn named<'a>(
     below: u32,
     pos: Pos,
     name: &Name,
-    scope: Scope,
+    scope: &mut Scope,
     tokens: &'a [Token],
 ) -> Result<Parsed<'a>, ParseError>
     requires deep { below + 1 < 2 ^ 32 }
-    requires count { scope.count + length tokens.now < 2 ^ 64 }
-    ensures read { Gives seen_read result (spec.named_stmt unit below pos name.now (seen_scope scope) tokens.now) }
-    ensures within { IfOk result (λ x. IsWithin (below + 1) scope tokens.now x) }
+    requires count { scope.old.count + length tokens.now < 2 ^ 64 }
+    ensures read { Gives (seen_read scope.new) result (spec.named_stmt unit below pos name.now scope.old tokens.now) }
+    ensures within { IfOk result (λ x. IsWithin (below + 1) scope.old scope.new tokens.now x) }
 {
     let [first, rest @ ..] = tokens else {
         return Err(ParseError::Syntax(0));
@@ -297,50 +280,33 @@ pub fn named<'a>(
         Word::Punct(punctuator::SQUARE_OPEN) => {
             assign_element(alloc, unit, below, pos, name, scope, rest)
         }
-        Word::Punct(punctuator::ROUND_OPEN) => {
-            run(alloc, pos, scope, call_at(alloc, below, name, rest)?)
-        }
+        Word::Punct(punctuator::ROUND_OPEN) => run(alloc, pos, call_at(alloc, below, name, rest)?),
         _ => Err(ParseError::Syntax(tokens.len())),
     }
 }
 
-/// The statement that declares this name, and the scope behind it.
-fn declared(
-    alloc: Global,
-    pos: Pos,
-    kind: Kind,
-    name: &Name,
-    scope: Scope,
-    right: Right,
-) -> Result<(Items<Stmt>, Scope), AllocError>
-    ensures stmts { IfOk result (λ x. x.0 ≡ grammar.right_to pos (Dest.Fresh kind name.now) right ∷ []) }
-    ensures scope { IfOk result (λ x. seen_scope x.1 ≡ scopes.declare (seen_scope scope) name.now) }
-    ensures count { IfOk result (λ x. x.1.count ≡ scope.count) }
-{
-    let scope = declare(scope, name.copy(alloc)?)?;
-    let dest = Dest::Fresh(kind, name.copy(alloc)?);
-    Ok((only(alloc, right_to(pos, dest, right))?, scope))
-}
-
-#[tactic(auto, unfolding(crate::specs::Code::StatementReading::declare_int))]
-fn declare_int<'a>(
+/// A declaration behind its name or its pointer.
+#[tactic(auto, unfolding(crate::specs::Code::StatementReading::initialized))]
+fn initialized<'a>(
     alloc: Global,
     unit: Unit,
     below: u32,
     pos: Pos,
+    kind: Kind,
     name: &Name,
-    scope: Scope,
+    scope: &mut Scope,
     tokens: &'a [Token],
 ) -> Result<Parsed<'a>, ParseError>
     requires deep { below + 1 < 2 ^ 32 }
-    ensures read { Gives seen_read result (spec.declare_int unit below pos name.now (seen_scope scope) tokens.now) }
-    ensures within { IfOk result (λ x. IsWithin (below + 1) scope tokens.now x) }
+    ensures read { Gives (seen_read scope.new) result (spec.initialized unit below pos kind name.now scope.old tokens.now) }
+    ensures within { IfOk result (λ x. IsWithin (below + 1) scope.old scope.new tokens.now x) }
 {
+    scope.declare(name.copy(alloc)?)?;
     let given = after(punctuator::EQUALS, tokens)?;
     let side = right_side(alloc, unit, below, given)?;
     let height = side.height + 1;
-    let (stmts, scope) = declared(alloc, pos, Kind::Int, name, scope, side.right)?;
-    done(stmts, height, scope, side.rest)
+    let dest = Dest::Fresh(kind, name.copy(alloc)?);
+    single(alloc, right_to(pos, dest, side.right), height, side.rest)
 }
 
 #[tactic(auto, unfolding(crate::specs::Code::StatementReading::declare_pointer))]
@@ -349,21 +315,16 @@ fn declare_pointer<'a>(
     unit: Unit,
     below: u32,
     pos: Pos,
-    scope: Scope,
+    scope: &mut Scope,
     tokens: &'a [Token],
 ) -> Result<Parsed<'a>, ParseError>
     requires deep { below + 1 < 2 ^ 32 }
-    ensures read { Gives seen_read result (spec.declare_pointer unit below pos (seen_scope scope) tokens.now) }
-    ensures within { IfOk result (λ x. IsWithin (below + 1) scope tokens.now x) }
+    ensures read { Gives (seen_read scope.new) result (spec.declare_pointer unit below pos scope.old tokens.now) }
+    ensures within { IfOk result (λ x. IsWithin (below + 1) scope.old scope.new tokens.now x) }
 {
-    let pointer = pointer_at(tokens)?;
-    let scope = refuse_arity(scope, pos, pointer.arity)?;
-    let given = after(punctuator::EQUALS, pointer.rest)?;
-    let side = right_side(alloc, unit, below, given)?;
-    let height = side.height + 1;
-    let kind = Kind::Fp(pointer.arity);
-    let (stmts, scope) = declared(alloc, pos, kind, pointer.name, scope, side.right)?;
-    done(stmts, height, scope, side.rest)
+    let Pointer { name, arity, rest } = pointer_at(tokens)?;
+    scope.refuse_arity(pos, arity)?;
+    initialized(alloc, unit, below, pos, Kind::Fp(arity), name, scope, rest)
 }
 
 /// A declaration, behind its `int`.
@@ -372,15 +333,15 @@ pub fn declaration<'a>(
     unit: Unit,
     below: u32,
     pos: Pos,
-    scope: Scope,
+    scope: &mut Scope,
     tokens: &'a [Token],
 ) -> Result<Parsed<'a>, ParseError>
     requires deep { below + 1 < 2 ^ 32 }
-    ensures read { Gives seen_read result (spec.declaration unit below pos (seen_scope scope) tokens.now) }
-    ensures within { IfOk result (λ x. IsWithin (below + 1) scope tokens.now x) }
+    ensures read { Gives (seen_read scope.new) result (spec.declaration unit below pos scope.old tokens.now) }
+    ensures within { IfOk result (λ x. IsWithin (below + 1) scope.old scope.new tokens.now x) }
 {
     match name_at(tokens) {
-        Some((name, rest)) => declare_int(alloc, unit, below, pos, name, scope, rest),
+        Some((name, rest)) => initialized(alloc, unit, below, pos, Kind::Int, name, scope, rest),
         None => declare_pointer(alloc, unit, below, pos, scope, tokens),
     }
 }
@@ -392,27 +353,26 @@ pub fn return_at<'a>(
     unit: Unit,
     below: u32,
     pos: Pos,
-    scope: Scope,
+    scope: &mut Scope,
     tokens: &'a [Token],
 ) -> Result<Parsed<'a>, ParseError>
     requires deep { below + 1 < 2 ^ 32 }
-    requires count { scope.count + length tokens.now < 2 ^ 64 }
-    ensures read { Gives seen_read result (spec.return_at unit below pos (seen_scope scope) tokens.now) }
-    ensures within { IfOk result (λ x. IsWithin (below + 1) scope tokens.now x) }
+    requires count { scope.old.count + length tokens.now < 2 ^ 64 }
+    ensures read { Gives (seen_read scope.new) result (spec.return_at unit below pos scope.old tokens.now) }
+    ensures within { IfOk result (λ x. IsWithin (below + 1) scope.old scope.new tokens.now x) }
 {
     if let Some(rest) = skip(punctuator::SEMICOLON, tokens) {
         return Ok(Parsed {
             stmts: only(alloc, Stmt::Return { pos, value: None })?,
             height: 1,
             is_open: false,
-            scope,
             rest,
         });
     }
     let side = right_side(alloc, unit, below, tokens)?;
     let height = side.height + 1;
-    let (stmts, scope) = returned(alloc, pos, scope, side.right)?;
-    done(stmts, height, scope, side.rest)
+    let stmts = returned(alloc, pos, scope, side.right)?;
+    done(stmts, height, side.rest)
 }
 
 /// An expression in the brackets of its statement.
@@ -433,51 +393,41 @@ pub fn condition(alloc: Global, below: u32, tokens: &[Token]) -> Result<Found<'_
 }
 
 /// `assert(..);`, behind its keyword.
+#[tactic(auto, unfolding(crate::specs::Code::StatementReading::checked))]
 pub fn assert_at(
     alloc: Global,
     below: u32,
     pos: Pos,
-    scope: Scope,
     tokens: &[Token],
 ) -> Result<Parsed<'_>, ParseError>
-    requires deep { below + 1 < 2 ^ 32 }
-    ensures read { Gives seen_read result (spec.checked (Stmt.Assert pos) below (seen_scope scope) tokens.now) }
-    ensures within { IfOk result (λ x. IsWithin (below + 1) scope tokens.now x) }
+    requires { below + 1 < 2 ^ 32 }
+    ensures read { (scope : scopes.Scope) → Gives (seen_read scope) result (spec.checked (Stmt.Assert pos) below scope tokens.now) }
+    ensures height { IfOk result (λ x. x.height ≤ below + 1) }
+    ensures rest { IfOk result (λ x. length x.rest.now < length tokens.now) }
 {
     let found = condition(alloc, below, tokens)?;
     let height = found.height + 1;
-    let stmts = only(
-        alloc,
-        Stmt::Assert {
-            pos,
-            cond: found.expr.into_inner(),
-        },
-    )?;
-    done(stmts, height, scope, found.rest)
+    let cond = found.expr.into_inner();
+    single(alloc, Stmt::Assert { pos, cond }, height, found.rest)
 }
 
 /// `client_out(..);`, behind its keyword.
+#[tactic(auto, unfolding(crate::specs::Code::StatementReading::checked))]
 pub fn output_at(
     alloc: Global,
     below: u32,
     pos: Pos,
-    scope: Scope,
     tokens: &[Token],
 ) -> Result<Parsed<'_>, ParseError>
-    requires deep { below + 1 < 2 ^ 32 }
-    ensures read { Gives seen_read result (spec.checked (Stmt.Output pos) below (seen_scope scope) tokens.now) }
-    ensures within { IfOk result (λ x. IsWithin (below + 1) scope tokens.now x) }
+    requires { below + 1 < 2 ^ 32 }
+    ensures read { (scope : scopes.Scope) → Gives (seen_read scope) result (spec.checked (Stmt.Output pos) below scope tokens.now) }
+    ensures height { IfOk result (λ x. x.height ≤ below + 1) }
+    ensures rest { IfOk result (λ x. length x.rest.now < length tokens.now) }
 {
     let found = condition(alloc, below, tokens)?;
     let height = found.height + 1;
-    let stmts = only(
-        alloc,
-        Stmt::Output {
-            pos,
-            value: found.expr.into_inner(),
-        },
-    )?;
-    done(stmts, height, scope, found.rest)
+    let value = found.expr.into_inner();
+    single(alloc, Stmt::Output { pos, value }, height, found.rest)
 }
 
 /// `dsu_update(k);`, behind its keyword.
@@ -487,11 +437,11 @@ pub fn point_at(
     unit: Unit,
     below: u32,
     pos: Pos,
-    scope: Scope,
     tokens: &[Token],
 ) -> Result<Parsed<'_>, ParseError>
-    ensures read { Gives seen_read result (spec.point_at unit below pos (seen_scope scope) tokens.now) }
-    ensures within { IfOk result (λ x. IsWithin (below + 1) scope tokens.now x) }
+    ensures read { (scope : scopes.Scope) → Gives (seen_read scope) result (spec.point_at unit below pos scope tokens.now) }
+    ensures height { IfOk result (λ x. x.height ≤ below + 1) }
+    ensures rest { IfOk result (λ x. length x.rest.now < length tokens.now) }
 {
     if is_merge(unit) || below == 0 {
         return Err(ParseError::Syntax(tokens.len() + 1));
@@ -501,7 +451,7 @@ pub fn point_at(
         return Err(ParseError::Syntax(inside.len()));
     };
     let end = after(punctuator::ROUND_CLOSE, closing)?;
-    done(only(alloc, Stmt::Point { pos, k })?, 2, scope, end)
+    single(alloc, Stmt::Point { pos, k }, 2, end)
 }
 
 /// `dsu_force();`, behind its keyword.
@@ -510,16 +460,16 @@ pub fn force_at(
     alloc: Global,
     unit: Unit,
     pos: Pos,
-    scope: Scope,
     tokens: &[Token],
 ) -> Result<Parsed<'_>, ParseError>
-    ensures read { Gives seen_read result (spec.force_at unit pos (seen_scope scope) tokens.now) }
-    ensures within { IfOk result (λ x. IsWithin 1 scope tokens.now x) }
+    ensures read { (scope : scopes.Scope) → Gives (seen_read scope) result (spec.force_at unit pos scope tokens.now) }
+    ensures height { IfOk result (λ x. x.height ≤ 1) }
+    ensures rest { IfOk result (λ x. length x.rest.now < length tokens.now) }
 {
     if !is_client(unit) {
         return Err(ParseError::Syntax(tokens.len() + 1));
     }
     let inside = after(punctuator::ROUND_OPEN, tokens)?;
     let end = after(punctuator::ROUND_CLOSE, inside)?;
-    done(only(alloc, Stmt::Force { pos })?, 1, scope, end)
+    single(alloc, Stmt::Force { pos }, 1, end)
 }

@@ -1,12 +1,9 @@
 //! What each command answers.
 
-ghost use Rattle.std.specs.Prelude.{IfOk};
-ghost use Rattle.c_grammar.specs.Written.{IsWritten};
-
 use anyhow::{Result, bail};
-use c_lang::{Expr, Fail, Program, Stmt, Unit, height_limit};
+use c_lang::{Expr, Fail, Program, Stmt, Unit};
 use c_lexer::{Token, Word, lex};
-use c_parser::parse;
+use c_parser::parse_text;
 use c_types::{Typed, check};
 use merge_printer::program_text;
 use std::alloc::{AllocError, Global};
@@ -35,15 +32,8 @@ fn shown(alloc: Global, answer: Result<String, Fail>) -> Result<String, AllocErr
     }
 }
 
-fn program_of(alloc: Global, unit: Unit, text: &[u8]) -> Result<Program, Fail>
-    ensures { IfOk result (IsWritten unit) }
-{
-    let tokens = lex(alloc, unit, text)?;
-    parse(alloc, unit, height_limit(unit), &tokens)
-}
-
 fn typed(alloc: Global, unit: Unit, text: &[u8]) -> Result<Typed, Fail> {
-    check(alloc, unit, program_of(alloc, unit, text)?)
+    check(alloc, unit, parse_text(alloc, unit, text)?)
 }
 
 // A keyword as `k34` and a punctuator as `p0`, by their numbers; names and numbers as they stand.
@@ -77,7 +67,7 @@ fn tokens(alloc: Global, unit: Unit, text: &[u8]) -> Result<String, Fail> {
 /// How many globals, prototypes and functions, the statements of each function, and what is refused
 /// early.
 fn counts(alloc: Global, unit: Unit, text: &[u8]) -> Result<String, Fail> {
-    let program = program_of(alloc, unit, text)?;
+    let program = parse_text(alloc, unit, text)?;
     Ok(program_counts(alloc, &program)?)
 }
 
@@ -98,7 +88,7 @@ fn program_counts(alloc: Global, program: &Program) -> Result<String, AllocError
 }
 
 fn text_of(alloc: Global, unit: Unit, text: &[u8]) -> Result<Vec<u8>, Fail> {
-    let program = program_of(alloc, unit, text)?;
+    let program = parse_text(alloc, unit, text)?;
     Ok(program_text(alloc, &program)?)
 }
 

@@ -1,49 +1,34 @@
 -- From a text to its typed program, stage by stage.
-use Rattle.std.proofs.Common.{◌≡◌, refl, sym, ap, ◌∙◌, subst, ◌≤◌, List, length, Result, Ok, Err}
+use Rattle.std.proofs.Common.{◌≡◌, refl, sym, ap, ◌∙◌, subst, Result, Ok, Err}
 use Rattle.std.specs.Prelude.{MatchResult}
-use Rattle.c_lang.specs.Limits.{height_limit, size_limit}
 use Rattle.c_lang.specs.declared.unit.Unit.{Unit}
 use Rattle.c_lang.specs.declared.refusal.Fail.{Fail}
 use Rattle.c_lang.specs.declared.refusal.Fail.TheVariants as fail
 use Rattle.c_lang.specs.declared.program.Program.{Program}
-use Rattle.c_grammar.specs.declared.token.Token.{Token}
-use Rattle.c_grammar.specs.Lexed as lexed
-use Rattle.c_grammar.specs.Parsed as parsed
+use Rattle.c_parser.specs.Texts as parsed
+use Rattle.c_parser.specs.Texts.{IsProgramText}
 use Rattle.c_lang.specs.declared.refusal.Refusal.{Refusal}
 use Rattle.c_types.specs.Kept.{TypedProgram, IsChecked}
 use Rattle.c_types.specs.Types.{Types}
 use Rattle.c_types.specs.Programs.{resolved_program}
 use Rattle.top_call.specs.Words.{Text}
-use Rattle.top_call.specs.TypedText.{IsTypedText, by_tokens, by_grammar, by_types, IsRefusedTextAs, HasProgram, IsRefused}
+use Rattle.top_call.specs.TypedText.{IsTypedText, by_text, by_types, IsRefusedTextAs, HasProgram, IsRefused}
 
 module _ (u : Unit) (text : Text) where
-  pub tokens-refused : (f : Fail) → lexed.IsRefusedAs f u text → IsRefusedTextAs f u text
-  tokens-refused fail.NoMemory h = tt
-  tokens-refused (fail.Refused refusal) h = by_tokens refusal h
+  pub text-refused : (f : Fail) → parsed.IsRefusedTextAs f u text → IsRefusedTextAs f u text
+  text-refused fail.NoMemory h = tt
+  text-refused (fail.Refused refusal) h = by_text refusal h
 
-  module _ (tokens : List Token) (within : length text ≤ size_limit u) (cut : lexed.Lexed u text tokens) where
-    pub grammar-refused : (f : Fail) → parsed.IsRefusedAs f u (height_limit u) tokens → IsRefusedTextAs f u text
-    grammar-refused fail.NoMemory h = tt
-    grammar-refused (fail.Refused refusal) h = by_grammar tokens refusal within cut h
-
-    pub checked : (source : Program) (result : Result TypedProgram Fail) → parsed.IsParsed u (height_limit u) tokens source → IsChecked u source result
-        → MatchResult result (λ typed. IsTypedText u text typed.program) (λ f. IsRefusedTextAs f u text)
-    checked source (Ok typed) is h = record {
-      source = source;
-      within = within;
-      parses = record { tokens = tokens; lexed = cut; parsed = is };
-      typed = h.1;
-      resolved = h.2;
-    }
-    checked source (Err fail.NoMemory) is h = tt
-    checked source (Err (fail.Refused refusal)) is h = by_types source refusal within (record { tokens = tokens; lexed = cut; parsed = is }) h.0 h.1
-
-  -- ---- what is accepted, stage by stage
-
-  pub source-only : (tokens : List Token) (source : Result Program Fail)
-      → ((p : Program) → parsed.IsParsed u (height_limit u) tokens p → MatchResult source (λ answer. answer ≡ p) (λ f. f ≡ fail.NoMemory))
-      → (program : Program) → (is : IsTypedText u text program) → tokens ≡ is.parses.tokens → MatchResult source (λ answer. answer ≡ is.source) (λ f. f ≡ fail.NoMemory)
-  source-only tokens source only program is same = only is.source (subst (λ (ts : List Token). parsed.IsParsed u (height_limit u) ts is.source) (sym same) is.parses.parsed)
+  pub checked : (source : Program) (result : Result TypedProgram Fail) → IsProgramText u text source → IsChecked u source result
+      → MatchResult result (λ typed. IsTypedText u text typed.program) (λ f. IsRefusedTextAs f u text)
+  checked source (Ok typed) is h = record {
+    source = source;
+    is_program = is;
+    typed = h.1;
+    resolved = h.2;
+  }
+  checked source (Err fail.NoMemory) is h = tt
+  checked source (Err (fail.Refused refusal)) is h = by_types source refusal is h.0 h.1
 
   pub checked-only : (source : Program) (result : Result TypedProgram Fail) → IsChecked u source result
       → (program : Program) → (is : IsTypedText u text program) → source ≡ is.source → MatchResult result (λ typed. typed.program ≡ program) (λ f. f ≡ fail.NoMemory)

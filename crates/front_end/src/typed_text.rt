@@ -4,9 +4,8 @@ ghost use Rattle.std.specs.Prelude.{◌≡◌, IfOk, MatchResult};
 ghost use Rattle.c_lang.specs.declared.program.Program.{Program};
 ghost use Rattle.top_call.specs.TypedText.{IsTypedText, IsRefusedTextAs};
 
-use c_lang::{Fail, Unit, height_limit};
-use c_lexer::lex;
-use c_parser::parse;
+use c_lang::{Fail, Unit};
+use c_parser::parse_text;
 use c_types::{Typed, check};
 use std::alloc::Global;
 
@@ -20,7 +19,6 @@ pub(crate) fn typed_text(alloc: Global, unit: Unit, text: &[u8]) -> Result<Typed
         → MatchResult result (λ typed. typed.program ≡ program) (λ fail. fail ≡ Fail.NoMemory) }
     ensures checked { IfOk result (λ typed. typed.unit ≡ unit) }
 {
-    let tokens = lex(alloc, unit, text)?;
-    let program = parse(alloc, unit, height_limit(unit), &tokens)?;
+    let program = parse_text(alloc, unit, text)?;
     check(alloc, unit, program)
 }

@@ -1,8 +1,9 @@
 //! What joins two versions: links, merged names, update points and transformers.
 
-use crate::programs::{parsed, shown, typed};
+use crate::programs::{shown, typed};
 use anyhow::{Context, Result, bail};
 use c_lang::{Fail, Name, Program, Unit};
+use c_parser::parse_text;
 use c_types::Typed;
 use case_texts::text_of;
 use state_xform::check_xform;
@@ -90,11 +91,11 @@ fn points_of(
     client: &[u8],
     listed: Option<&[u32]>,
 ) -> Result<String, Fail> {
-    let old = parsed(alloc, Unit::Old, old)?;
+    let old = parse_text(alloc, Unit::Old, old)?;
     if client.is_empty() {
         return permitted(alloc, &old, None, listed);
     }
-    let client = parsed(alloc, Unit::Client, client)?;
+    let client = parse_text(alloc, Unit::Client, client)?;
     permitted(alloc, &old, Some(&client), listed)
 }
 
@@ -115,7 +116,7 @@ pub fn points(alloc: Global, old: &[u8], client: &[u8], list: &str) -> Result<St
 
 fn checked(alloc: Global, old: &Typed, new: &Typed, text: &[u8]) -> Result<String, Fail> {
     let links = link(alloc, old, new)?;
-    let program = parsed(alloc, Unit::Xform, text)?;
+    let program = parse_text(alloc, Unit::Xform, text)?;
     let xform = check_xform(alloc, old, new, &links, program)?;
     Ok(format!(in alloc; "transformer {}", xform.program().funcs.len())?)
 }

@@ -4,6 +4,7 @@ use Rattle.c_lang.specs.Names.{Bytes}
 use Rattle.c_lang.specs.declared.unit.Unit.{Unit}
 use Rattle.c_lang.specs.declared.unit.Pos.{Pos}
 use Rattle.c_lang.specs.declared.expr.Expr.{Expr}
+use Rattle.c_lang.specs.declared.stmt.Kind.{Kind}
 use Rattle.c_lang.specs.declared.stmt.Kind.TheVariants as kind
 use Rattle.c_lang.specs.declared.stmt.Dest.{Dest}
 use Rattle.c_lang.specs.declared.stmt.Dest.TheVariants as dest
@@ -165,21 +166,18 @@ unfoldable pub named_stmt : Unit → ℕ → Pos → Bytes → Scope → List To
 named_stmt u d p x sc [] = None
 named_stmt u d p x sc (t ∷ ts) = named_by u d p x sc t.what ts
 
-unfoldable pub declare_int : Unit → ℕ → Pos → Bytes → Scope → List Token → Option Read
-declare_int u d p x sc ts = do
+-- behind the name that is declared
+unfoldable pub initialized : Unit → ℕ → Pos → Kind → Bytes → Scope → List Token → Option Read
+initialized u d p k x sc ts = do
   a ← after equals ts
   y ← right_side u d a
-  done (right_to p (dest.Fresh kind.Int x) y.right ∷ []) (y.height + 1) (declare sc x) y.rest
+  done (right_to p (dest.Fresh k x) y.right ∷ []) (y.height + 1) (declare sc x) y.rest
 
 unfoldable pub declare_pointer : Unit → ℕ → Pos → Scope → List Token → Option Read
-declare_pointer u d p sc ts = do
-  f ← pointer_at ts
-  a ← after equals f.rest
-  y ← right_side u d a
-  done (right_to p (dest.Fresh (kind.Fp f.arity) f.name) y.right ∷ []) (y.height + 1) (refuse_arity (declare sc f.name) p f.arity) y.rest
+declare_pointer u d p sc ts = pointer_at ts >>= λ f. initialized u d p (kind.Fp f.arity) f.name (refuse_arity sc p f.arity) f.rest
 
 abbrev pub declaration_by : Unit → ℕ → Pos → Scope → List Token → Option (Bytes × List Token) → Option Read
-declaration_by u d p sc ts (Some x) = declare_int u d p x.0 sc x.1
+declaration_by u d p sc ts (Some x) = initialized u d p kind.Int x.0 sc x.1
 declaration_by u d p sc ts None = declare_pointer u d p sc ts
 
 -- behind the `int`
@@ -193,7 +191,7 @@ return_by u d p sc ts None = right_side u d ts >>= λ y. done (return_stmts p sc
 unfoldable pub return_at : Unit → ℕ → Pos → Scope → List Token → Option Read
 return_at u d p sc ts = return_by u d p sc ts (after semicolon ts)
 
-abbrev pub checked : (Expr → Stmt) → ℕ → Scope → List Token → Option Read
+unfoldable pub checked : (Expr → Stmt) → ℕ → Scope → List Token → Option Read
 checked f d sc ts = condition d ts >>= λ c. done (f c.expr ∷ []) (c.height + 1) sc c.rest
 
 unfoldable pub point_at : Unit → ℕ → Pos → Scope → List Token → Option Read

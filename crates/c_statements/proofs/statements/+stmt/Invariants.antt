@@ -1,6 +1,5 @@
 use Rattle.std.proofs.Common.{◌≤◌, ◌+◌, ◌*◌, length}
 use Rattle.c_statements.specs.Code.StatementReading as spec
-use Rattle.c_statements.specs.Code.Seen.{seen_read, seen_scope}
 use Rattle.c_statements.proofs.StatementTurns.{IsLeft}
 use Rattle.c_statements.proofs.statements.+stmt.Given as goal
 
@@ -25,13 +24,13 @@ decreases-branch l = 7 * l.below + 4
 abbrev pub decreases-repeat : goal.decreases-repeat
 decreases-repeat l = 7 * l.below + 4
 
-abbrev pub invariant-items-loop-rest : goal.invariant-items-loop-rest
-invariant-items-loop-rest l = record {
-  total : IsLeft (spec.stmt l.unit l.below) l.below l.in_loop (seen_read l.so_far) (spec.items (spec.stmt l.unit l.below) l.below (length l.tokens + 1) l.in_loop (spec.nothing (seen_scope l.fn.scope) l.tokens));
-  high : l.so_far.height ≤ l.below;
-  shorter : length l.so_far.rest.now ≤ length l.tokens;
-  counted : l.so_far.scope.count + length l.so_far.rest.now ≤ l.fn.scope.count + length l.tokens;
+abbrev pub invariant-items-loop-behind : goal.invariant-items-loop-behind
+invariant-items-loop-behind l = record {
+  total : IsLeft (spec.stmt l.unit l.below) l.below l.in_loop (spec.made l.stmts l.height l.scope l.rest) (spec.items (spec.stmt l.unit l.below) l.below (length l.tokens + 1) l.in_loop (spec.nothing l.fn.scope l.tokens));
+  high : l.height ≤ l.below;
+  shorter : length l.rest ≤ length l.tokens;
+  counted : l.scope.count + length l.rest ≤ l.fn.scope.count + length l.tokens;
 }
 
-abbrev pub decreases-items-loop-rest : goal.decreases-items-loop-rest
-decreases-items-loop-rest l = length l.so_far.rest.now
+abbrev pub decreases-items-loop-behind : goal.decreases-items-loop-behind
+decreases-items-loop-behind l = length l.rest
