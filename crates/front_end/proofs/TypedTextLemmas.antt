@@ -1,6 +1,7 @@
 -- From a text to its typed program, stage by stage.
 use Rattle.std.proofs.Common.{◌≡◌, refl, sym, ap, ◌∙◌, subst, Result, Ok, Err}
 use Rattle.std.specs.Prelude.{MatchResult}
+use Rattle.c_lang.specs.Names.{Bytes}
 use Rattle.c_lang.specs.declared.unit.Unit.{Unit}
 use Rattle.c_lang.specs.declared.refusal.Fail.{Fail}
 use Rattle.c_lang.specs.declared.refusal.Fail.TheVariants as fail
@@ -11,10 +12,9 @@ use Rattle.c_lang.specs.declared.refusal.Refusal.{Refusal}
 use Rattle.c_types.specs.Kept.{TypedProgram, IsChecked}
 use Rattle.c_types.specs.Types.{Types}
 use Rattle.c_types.specs.Programs.{resolved_program}
-use Rattle.top_call.specs.Words.{Text}
-use Rattle.top_call.specs.TypedText.{IsTypedText, by_text, by_types, IsRefusedTextAs, HasProgram, IsRefused}
+use Rattle.front_end.specs.TypedText.{IsTypedText, by_text, by_types, IsRefusedTextAs, HasProgram, IsRefused}
 
-module _ (u : Unit) (text : Text) where
+module _ (u : Unit) (text : Bytes) where
   pub text-refused : (f : Fail) → parsed.IsRefusedTextAs f u text → IsRefusedTextAs f u text
   text-refused fail.NoMemory h = tt
   text-refused (fail.Refused refusal) h = by_text refusal h
@@ -37,11 +37,11 @@ module _ (u : Unit) (text : Text) where
   checked-only source (Err (fail.Refused refusal)) h program is same = absurd (h.0 (subst (λ (p : Program). Types u p) (sym same) is.typed))
 
 -- what the answer says of a text
-pub has-program : (u : Unit) (text : Text) (typed : Program) → IsTypedText u text typed
+pub has-program : (u : Unit) (text : Bytes) (typed : Program) → IsTypedText u text typed
     → ((program : Program) → IsTypedText u text program → typed ≡ program) → HasProgram u text typed
 has-program u text typed is only = record { is_typed = is; only = λ other it. sym (only other it) }
 
-pub is-refused : (u : Unit) (text : Text) (f : Fail) (refusal : Refusal) → f ≡ fail.Refused refusal → IsRefusedTextAs f u text
+pub is-refused : (u : Unit) (text : Bytes) (f : Fail) (refusal : Refusal) → f ≡ fail.Refused refusal → IsRefusedTextAs f u text
     → ((program : Program) → IsTypedText u text program → f ≡ fail.NoMemory) → IsRefused u text refusal
 is-refused u text f refusal is first none = record {
   first = rw is at first;

@@ -1,4 +1,4 @@
--- Conditions in their order, each with its refusal.
+-- Conditions in their order, each with the refusals of what doesn't meet it.
 use Rattle.std.specs.Prelude.{⊤, ◌≡◌, ℕ, Result, MatchResult, List, [], ◌∷◌, ◌⊎◌}
 use Rattle.c_lang.specs.Refusals.{refused_at}
 use Rattle.c_lang.specs.Units.{at}
@@ -11,10 +11,14 @@ use Rattle.c_lang.specs.declared.refusal.Fail.TheVariants as fail
 abbrev pub refusal_at : ℕ → Unit → Refusal
 refusal_at number unit = refused_at number (at unit 1)
 
--- what an input must meet, and the refusal of one that doesn't
+-- what an input must meet, and what refuses one that doesn't
 pub record Condition : Type 1 where
-  pub refusal : Refusal
   pub Holds : Type 0
+  pub Refuses : Refusal → Type 0
+
+-- a condition with one refusal
+abbrev pub or_refused : Refusal → Type 0 → Condition
+or_refused refusal Met = record { Holds = Met; Refuses = λ r. r ≡ refusal }
 
 abbrev pub AllHold : List Condition → Type 0
 AllHold [] = ⊤
@@ -24,7 +28,7 @@ AllHold (condition ∷ conditions) = condition.Holds × AllHold conditions
 abbrev pub IsFirstRefusal : List Condition → Refusal → Type 0
 IsFirstRefusal [] refusal = ⊥
 IsFirstRefusal (condition ∷ conditions) refusal =
-    ((condition.Holds → ⊥) × (refusal ≡ condition.refusal)) ⊎ (condition.Holds × IsFirstRefusal conditions refusal)
+    ((condition.Holds → ⊥) × condition.Refuses refusal) ⊎ (condition.Holds × IsFirstRefusal conditions refusal)
 
 -- All hold, or the answer is that refusal.
 abbrev pub Checks : List Condition → Result ⊤ Refusal → Type 0

@@ -3,7 +3,7 @@ use Rattle.top_call.specs.Words.{Text, chosen, added}
 use Rattle.c_lang.specs.Names.{behind}
 use Rattle.top_call.specs.Seen.{IsChosen}
 use Rattle.top_call.proofs.RunWordLemmas.{chosen-next}
-use Rattle.top_call.proofs.run_words.values_of.Goals as goal
+use Rattle.top_call.proofs.option_words.values_of.Goals as goal
 
 pub loop-word-preserved : goal.loop-word-preserved
 loop-word-preserved c =

@@ -1,7 +1,7 @@
 use Rattle.std.proofs.Common.{arith, refl, []}
 use Rattle.std.proofs.lemmas.Result.{err_from_is_err_and}
 use Rattle.top_call.proofs.ReadLemmas.{third, Rose-later}
-use Rattle.top_call.proofs.merge.read_texts.Goals as goal
+use Rattle.top_call.proofs.texts.read_texts.Goals as goal
 
 pub returns-in_err-xform-clause-cause : goal.returns-in_err-xform-clause-cause
 returns-in_err-xform-clause-cause g c =

@@ -1,6 +1,6 @@
 use Rattle.std.proofs.lemmas.Result.{err_from_is_err_and}
-use Rattle.top_call.proofs.TypedTextLemmas.{text-refused, checked, checked-only}
-use Rattle.top_call.proofs.typed_text.typed_text.Goals as goal
+use Rattle.front_end.proofs.TypedTextLemmas.{text-refused, checked, checked-only}
+use Rattle.front_end.proofs.typed.typed_text.Goals as goal
 
 pub returns-in_err-program-clause-answer : goal.returns-in_err-program-clause-answer
 returns-in_err-program-clause-answer c =
