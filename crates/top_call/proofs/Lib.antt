@@ -7,5 +7,6 @@ pub mod HeadlineLemmas
 pub mod RunHeadlineLemmas
 pub mod ReplayHeadlineLemmas
 pub mod RunLemmas
+pub mod OptionWordLemmas
 pub mod RunWordLemmas
 pub mod NumberLemmas

@@ -1,81 +1,35 @@
--- What the words of `run` give.
-use Rattle.std.proofs.Common.{◌≡◌, refl, sym, ap, ◌∙◌, subst, ℕ, suc, ◌<◌, arith, ◌+◌, ℤ, List, [], ◌∷◌, ◌++◌, length, get_or, take, drop, map, true, false, Option, Some, None, option_map, String, string_bytes}
-use Rattle.std.specs.Prelude.{nat_eq, MatchOption}
-use Rattle.std.specs.Borrow.{Bor}
-use Rattle.std.specs.List.{starts_with, list_all}
+-- What the words of `run` and of `replay` ask for.
+use Rattle.std.proofs.Common.{◌≡◌, refl, ℕ, ℤ, List, [], map, true, false, Option, Some, None, String, string_bytes}
+use Rattle.std.specs.List.{list_all}
 use Rattle.std.specs.declared.alloc.Global.{Global}
-use Rattle.std.specs.Str.{IsCharBoundary}
-use Rattle.std.specs.Str.Pattern.{FindsTextPrefix, StripsPrefix}
-use Rattle.std.proofs.lemmas.List.{take_more, map-append}
 use Rattle.std.proofs.lemmas.List.Folds.{list_all-map}
-use Rattle.std.proofs.lemmas.Str.Pattern.{starts_text}
-use Rattle.top_call.specs.Words.{Text, with_chosen, chosen, added, file_in, is_run_word, run_of, option_value, answers_name, steps_name}
 use Rattle.c_lang.specs.Names.{behind}
-use Rattle.top_call.specs.Numbers.{answers_of, steps_of}
-use Rattle.top_call.specs.Seen.{seen_text, IsChosen}
-use Rattle.top_call.specs.declared.run_words.Chosen.{Chosen}
-use Rattle.top_call.specs.declared.run_words.Chosen.TheVariants.{Nothing, One, Several}
+use Rattle.top_call.specs.Numbers.{answers_of, steps_of, default_steps}
+use Rattle.top_call.specs.Words.{Text, UpdateFiles, chosen, file_in, one_file, three_files, listed, is_run_word, is_replay_word, run_of, replay_of, option_value, answers_name, points_name, steps_name}
 
--- `strip_prefix` gives what follows the option's name
-pub stripped : (name word : Text) (o : Option (Bor Text)) → MatchOption o (FindsTextPrefix name word None) (λ x. StripsPrefix (FindsTextPrefix name) word x.now)
-    → option_map seen_text o ≡ behind name word
-stripped name word None none =
-    let none_there : false ≡ starts_with nat_eq word name = starts_text false name word none in rw (← none_there) refl
-stripped name word (Some x) (n, is, rest, len) =
-    let edge : IsCharBoundary word n = subst (λ k. IsCharBoundary word k) (sym is.0) is.2 in
-    let yes : true ≡ starts_with nat_eq word name = starts_text true name word (n, is, edge) in
-    rw (← yes) (ap (λ (t : Text). Some t) (rest ∙ ap (λ k. drop k word) is.0))
+module _ (words : List (String Global)) where
+  abbrev texts : List Text
+  texts = map string_bytes words
 
--- ---- what words give, one word after the other
+  pub unknown-word : list_all (λ word. is_run_word (string_bytes word)) words ≡ false → run_of texts ≡ None
+  unknown-word has = rw (list_all-map is_run_word string_bytes words, has) refl
 
-with_chosen-append : (o : Option Text) (texts : List Text) (p : Option Text) → with_chosen o (added texts p) ≡ added (with_chosen o texts) p
-with_chosen-append None texts p = refl
-with_chosen-append (Some t) texts None = refl
-with_chosen-append (Some t) texts (Some u) = refl
+  pub run-is : (file : Text) (answers : List ℤ) (steps : ℕ)
+      → list_all (λ word. is_run_word (string_bytes word)) words ≡ true
+      → one_file (chosen file_in texts) ≡ Some file
+      → option_value answers_of [] (chosen (behind answers_name) texts) ≡ Some answers
+      → option_value steps_of default_steps (chosen (behind steps_name) texts) ≡ Some steps
+      → run_of texts ≡ Some (record { file = file; answers = answers; steps = steps })
+  run-is file answers steps known one list number = rw (list_all-map is_run_word string_bytes words, known, one, list, number) refl
 
-with_chosen-added : (p : Option Text) → with_chosen p [] ≡ added [] p
-with_chosen-added None = refl
-with_chosen-added (Some t) = refl
+  pub unknown-replay-word : list_all (λ word. is_replay_word (string_bytes word)) words ≡ false → replay_of texts ≡ None
+  unknown-replay-word has = rw (list_all-map is_replay_word string_bytes words, has) refl
 
-pub chosen-append : (gives : Text → Option Text) (words : List Text) (word : Text) → chosen gives (words ++ word ∷ []) ≡ added (chosen gives words) (gives word)
-chosen-append gives [] word = with_chosen-added (gives word)
-chosen-append gives (w ∷ words) word =
-    ap (with_chosen (gives w)) (chosen-append gives words word) ∙ with_chosen-append (gives w) (chosen gives words) (gives word)
-
-pub chosen-next : (gives : Text → Option Text) (words : List (String Global)) (i : ℕ) (word : String Global) → i < length words → word ≡ get_or words i word
-    → chosen gives (map string_bytes (take (i + 1) words)) ≡ added (chosen gives (map string_bytes (take i words))) (gives (string_bytes word))
-chosen-next gives words i word there is =
-    let more : take (i + 1) words ≡ take i words ++ word ∷ [] = take_more words i word there ∙ ap (λ w. take i words ++ w ∷ []) (sym is) in
-    ap (λ ws. chosen gives (map string_bytes ws)) more ∙ ap (chosen gives) (map-append string_bytes (take i words) (word ∷ []))
-    ∙ chosen-append gives (map string_bytes (take i words)) (string_bytes word)
-
--- ---- one choice more
-
-length-added : (texts : List Text) (t : Text) → length (texts ++ t ∷ []) ≡ suc (length texts)
-length-added [] t = refl
-length-added (u ∷ texts) t = ap suc (length-added texts t)
-
-pub nothing-more : (texts : List Text) (c : Chosen) → IsChosen texts c → IsChosen (added texts None) c
-nothing-more texts c h = h
-
-pub first-more : (texts : List Text) (text : Bor Text) → IsChosen texts Nothing → IsChosen (added texts (Some text.now)) (One text)
-first-more texts text h = ap (λ (ts : List Text). ts ++ text.now ∷ []) h
-
-pub second-more : (texts : List Text) (first : Bor Text) (text : Text) → IsChosen texts (One first) → IsChosen (added texts (Some text)) Several
-second-more texts first text h = let e = length-added texts text in let l = ap length h in omega (arith, e, l)
-
-pub more-more : (texts : List Text) (text : Text) → IsChosen texts Several → IsChosen (added texts (Some text)) Several
-more-more texts text h = let e = length-added texts text in omega (arith, e, h)
-
--- ---- the whole request
-
-pub unknown-word : (words : List (String Global)) → list_all (λ word. is_run_word (string_bytes word)) words ≡ false → run_of (map string_bytes words) ≡ None
-unknown-word words has = rw (list_all-map is_run_word string_bytes words, has) refl
-
-pub run-is : (words : List (String Global)) (file : Text) (answers : List ℤ) (steps : ℕ)
-    → list_all (λ word. is_run_word (string_bytes word)) words ≡ true
-    → chosen file_in (map string_bytes words) ≡ file ∷ []
-    → option_value answers_of [] (chosen (behind answers_name) (map string_bytes words)) ≡ Some answers
-    → option_value steps_of 1000000 (chosen (behind steps_name) (map string_bytes words)) ≡ Some steps
-    → run_of (map string_bytes words) ≡ Some (record { file = file; answers = answers; steps = steps })
-run-is words file answers steps known one list number = rw (list_all-map is_run_word string_bytes words, known, one, list, number) refl
+  pub replay-is : (files : UpdateFiles) (points : Option (List ℕ)) (answers : List ℤ) (steps : ℕ)
+      → list_all (λ word. is_replay_word (string_bytes word)) words ≡ true
+      → three_files (chosen file_in texts) ≡ Some files
+      → option_value listed None (chosen (behind points_name) texts) ≡ Some points
+      → option_value answers_of [] (chosen (behind answers_name) texts) ≡ Some answers
+      → option_value steps_of default_steps (chosen (behind steps_name) texts) ≡ Some steps
+      → replay_of texts ≡ Some (record { files = files; points = points; answers = answers; steps = steps })
+  replay-is files points answers steps known three listing list number = rw (list_all-map is_replay_word string_bytes words, known, three, listing, list, number) refl

@@ -1,7 +1,7 @@
 //! The command `replay`.
 
 ghost use Rattle.std.specs.Prelude.{◌≡◌, IfOk, IsErrOf};
-ghost use Rattle.front_end.specs.Worlds.{IsAccepted, Texts};
+ghost use Rattle.front_end.specs.Worlds as worlds;
 ghost use Rattle.update_semantics.specs.Worlds.{world_of};
 ghost use Rattle.top_call.specs.Held.{HasReadCause};
 ghost use Rattle.top_call.specs.Merge.{names_of};
@@ -59,9 +59,9 @@ fn reply_of_world(
     replay: &ReplayRequest<'_>,
     world: &World,
 ) -> Result<Reply, RunError>
-    ensures reply { (ts : Texts) → IsAccepted (seen_replay replay.now).points ts (world_of world.now) →
+    ensures reply { (ts : worlds.Texts) → worlds.IsAccepted (seen_replay replay.now).points ts (world_of world.now) →
         IfOk result (λ reply. Replays (seen_replay replay.now) ts (seen_reply reply)) }
-    ensures deep { (ts : Texts) → IsAccepted (seen_replay replay.now).points ts (world_of world.now) →
+    ensures deep { (ts : worlds.Texts) → worlds.IsAccepted (seen_replay replay.now).points ts (world_of world.now) →
         IsErrOf result RunError.Deep → ReplaysTooDeep (seen_replay replay.now) ts }
 {
     let shown = replay_updated(alloc, world, &replay.answers, replay.steps)?;

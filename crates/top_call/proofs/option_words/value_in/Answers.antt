@@ -1,4 +1,4 @@
-use Rattle.top_call.proofs.RunWordLemmas.{stripped}
+use Rattle.top_call.proofs.OptionWordLemmas.{stripped}
 use Rattle.top_call.proofs.option_words.value_in.Goals as goal
 
 pub returns : goal.returns

@@ -2,7 +2,7 @@ use Rattle.std.proofs.Common.{◌∙◌, ap, sym, subst, map, take, string_bytes
 use Rattle.top_call.specs.Words.{Text, chosen, added}
 use Rattle.c_lang.specs.Names.{behind}
 use Rattle.top_call.specs.Seen.{IsChosen}
-use Rattle.top_call.proofs.RunWordLemmas.{chosen-next}
+use Rattle.top_call.proofs.OptionWordLemmas.{chosen-next}
 use Rattle.top_call.proofs.option_words.values_of.Goals as goal
 
 pub loop-word-preserved : goal.loop-word-preserved
