@@ -15,8 +15,9 @@ use Rattle.c_grammar.specs.Separated.{Separated, last, more, parts_of, separated
 use Rattle.c_expressions.specs.Code.ParseSteps.{◌>>=◌, after, after_key, name_at, separated}
 use Rattle.c_expressions.proofs.SeparatedLaws.{all_added, reads_all_parts, size_fits}
 use Rattle.c_grammar.specs.Statements as g
-use Rattle.c_statements.specs.Code.StatementReading.{Pointer, pointer_at, Read, made}
-use Rattle.c_statements.proofs.SideComplete.{pointer_again}
+use Rattle.c_expressions.specs.Code.SideReading.{Pointer, pointer_at}
+use Rattle.c_statements.specs.Code.StatementReading.{Read, made}
+use Rattle.c_expressions.proofs.SideComplete.{pointer_again}
 use Rattle.c_statements.proofs.BlockLaws.{is_read}
 use Rattle.c_grammar.specs.Units.{Parts}
 use Rattle.c_parser.specs.declared.params.Param.{Param}

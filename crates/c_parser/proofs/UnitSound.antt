@@ -18,8 +18,9 @@ use Rattle.c_expressions.proofs.OperatorLaws.{chosen}
 use Rattle.c_expressions.proofs.SeparatedLaws.{IsPart, parts_read}
 use Rattle.c_grammar.specs.Scopes.{arity_refusals}
 use Rattle.c_grammar.specs.Statements as g
-use Rattle.c_statements.specs.Code.StatementReading.{Pointer, pointer_at, Read, nothing, items, stmt}
-use Rattle.c_statements.proofs.SideSound.{after_key-is, name_at-is, number_at-is, pointer-read}
+use Rattle.c_expressions.specs.Code.SideReading.{Pointer, pointer_at}
+use Rattle.c_statements.specs.Code.StatementReading.{Read, nothing, items, stmt}
+use Rattle.c_expressions.proofs.SideSound.{after_key-is, name_at-is, number_at-is, pointer-read}
 use Rattle.c_statements.proofs.BlockLaws.{is_block}
 use Rattle.c_grammar.specs.Units.{Parts}
 use Rattle.c_parser.specs.declared.params.Param.{Param}

@@ -10,7 +10,7 @@ use c_expressions::front::{after, name_at, number_at, skip};
 use c_expressions::parse_error::ParseError;
 use c_lang::{GlobalVar, Name, Pos, Refusal, Shape};
 use c_lexer::{Token, punctuator};
-use c_statements::pointer::pointer_at;
+use c_expressions::pointer::pointer_at;
 use sqlite_items::Items;
 use std::alloc::{AllocError, Global};
 

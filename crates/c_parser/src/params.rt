@@ -10,7 +10,7 @@ use c_expressions::front::{after, after_key, name_at, skip, skip_key};
 use c_expressions::parse_error::ParseError;
 use c_lang::{Kind, Name, Pos, Refusal};
 use c_lexer::{Token, keyword, punctuator};
-use c_statements::pointer::pointer_at;
+use c_expressions::pointer::pointer_at;
 use sqlite_items::Items;
 use std::alloc::{AllocError, Global};
 

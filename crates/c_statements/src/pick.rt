@@ -4,13 +4,14 @@ ghost use Rattle.std.specs.Prelude.{◌≡◌, ◌≤◌, ◌<◌, ◌+◌, ◌-
 ghost use Rattle.c_expressions.specs.Code.ParseSteps.{Gives};
 ghost use Rattle.c_grammar.specs.Scopes as scopes;
 ghost use Rattle.c_statements.specs.Code.StatementReading as spec;
-ghost use Rattle.c_statements.specs.Code.Seen.{seen_called, seen_one, seen_read};
+ghost use Rattle.c_expressions.specs.Code.Seen.{seen_called};
+ghost use Rattle.c_statements.specs.Code.Seen.{seen_one, seen_read};
 
-use crate::right::{Called, call_at};
 use crate::scope::is_client;
 use crate::simple::{Parsed, call_to, only};
 use c_expressions::front::{after, after_key, name_at, skip, skip_key};
 use c_expressions::parse_error::ParseError;
+use c_expressions::right::{Called, call_at};
 use c_lang::{Dest, Name, Pos, Stmt, Unit};
 use c_lexer::{Token, Word, keyword, punctuator};
 use sqlite_items::Boxed;

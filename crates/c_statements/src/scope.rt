@@ -93,12 +93,6 @@ impl Scope {
     }
 }
 
-pub fn is_merge(unit: Unit) -> bool
-    ensures { result ≡ spec.is_merge unit }
-{
-    matches!(unit, Unit::Merge)
-}
-
 pub fn is_client(unit: Unit) -> bool
     ensures { result ≡ spec.is_client unit }
 {

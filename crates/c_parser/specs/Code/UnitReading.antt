@@ -15,7 +15,8 @@ use Rattle.c_grammar.specs.declared.token.Word.TheVariants as w
 use Rattle.c_grammar.specs.Tokens.{round_open, round_close, brace_open, brace_close, square_open, square_close, semicolon, equals, minus, int_key, void_key}
 use Rattle.c_expressions.specs.Code.ParseSteps.{◌>>=◌, after, after_key, name_at, number_at, separated}
 use Rattle.c_grammar.specs.Scopes.{arity_refusals}
-use Rattle.c_statements.specs.Code.StatementReading.{nothing, items, stmt, pointer_at}
+use Rattle.c_expressions.specs.Code.SideReading.{pointer_at}
+use Rattle.c_statements.specs.Code.StatementReading.{nothing, items, stmt}
 use Rattle.c_lang.specs.declared.program.Program.{Program}
 use Rattle.c_grammar.specs.Grammar.{program_of}
 use Rattle.c_grammar.specs.Units.{no_parts, with_proto, with_func, with_number, with_array, with_pointer, body_start}
