@@ -131,7 +131,10 @@ pub fn params_at(
         return Ok((Params::new(alloc), rest));
     }
     match skip_key(keyword::VOID, tokens) {
-        Some(inside) => Ok((Params::new(alloc), after(punctuator::ROUND_CLOSE, inside)?)),
+        Some(inside) => {
+            let rest = after(punctuator::ROUND_CLOSE, inside)?;
+            Ok((Params::new(alloc), rest))
+        }
         None => {
             let (params, closing) = several(alloc, pos, tokens)?;
             Ok((params, after(punctuator::ROUND_CLOSE, closing)?))

@@ -55,10 +55,10 @@ impl Scope {
     }
 
     /// Declares a name. The only error is want of memory.
-    pub fn declare(&mut self, name: Name) -> Result<(), AllocError>
-        ensures { OnOk result (self.new ≡ spec.declare self.old name) }
+    pub fn declare(&mut self, alloc: Global, name: &Name) -> Result<(), AllocError>
+        ensures { OnOk result (self.new ≡ spec.declare self.old name.now) }
     {
-        match self.declared.insert(name) {
+        match self.declared.insert(name.copy(alloc)?) {
             Ok(_) => Ok(()),
             Err(_) => Err(AllocError),
         }

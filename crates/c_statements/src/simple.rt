@@ -312,7 +312,7 @@ fn initialized<'a>(
     ensures read { Gives (seen_read scope.new) result (spec.initialized unit below pos kind name.now scope.old tokens.now) }
     ensures within { IfOk result (λ x. IsWithin (below + 1) scope.old scope.new tokens.now x) }
 {
-    scope.declare(name.copy(alloc)?)?;
+    scope.declare(alloc, name)?;
     let given = after(punctuator::EQUALS, tokens)?;
     let side = right_side(alloc, unit, below, given)?;
     let height = side.height + 1;
