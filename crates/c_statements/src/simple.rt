@@ -264,7 +264,12 @@ pub fn run(alloc: Global, pos: Pos, called: Called<'_>) -> Result<Parsed<'_>, Pa
     ensures rest { IfOk result (λ x. length x.rest.now < length called.entry.rest.now) }
 {
     let height = called.height + 1;
-    single(alloc, call_to(pos, Dest::Nowhere, called.call), height, called.rest)
+    single(
+        alloc,
+        call_to(pos, Dest::Nowhere, called.call),
+        height,
+        called.rest,
+    )
 }
 
 /// A statement that begins with a name, behind the name.

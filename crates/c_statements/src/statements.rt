@@ -13,8 +13,8 @@ ghost use Rattle.c_statements.specs.Code.Seen.{seen_read, IsWithin};
 use crate::pick::{pick_at, updated_at};
 use crate::scope::Scope;
 use crate::simple::{
-    Parsed, assert_at, declaration, force_at, named, only, output_at, point_at,
-    return_at, run, single,
+    Parsed, assert_at, declaration, force_at, named, only, output_at, point_at, return_at, run,
+    single,
 };
 use c_expressions::front::{skip, skip_key};
 use c_expressions::parse_error::ParseError;

@@ -1,5 +1,5 @@
 -- Reading statements from a list of tokens.
-use Rattle.std.specs.Prelude.{ℕ, zero, suc, ◌+◌, ◌-◌, max, min, nat_lt, Bool, true, false, if◌then◌else◌, ◌==◌, List, [], ◌∷◌, ◌++◌, length, Option, Some, None}
+use Rattle.std.specs.Prelude.{ℕ, zero, suc, ◌+◌, ◌-◌, max, nat_lt, Bool, true, false, if◌then◌else◌, ◌==◌, List, [], ◌∷◌, ◌++◌, length, Option, Some, None}
 use Rattle.c_lang.specs.Names.{Bytes}
 use Rattle.c_lang.specs.declared.unit.Unit.{Unit}
 use Rattle.c_lang.specs.declared.unit.Pos.{Pos}
@@ -13,12 +13,8 @@ use Rattle.c_lang.specs.declared.stmt.Stmt.TheVariants as s
 use Rattle.c_grammar.specs.declared.token.Token.{Token}
 use Rattle.c_grammar.specs.declared.token.Word.{Word}
 use Rattle.c_grammar.specs.declared.token.Word.TheVariants as w
-use Rattle.c_grammar.specs.declared.right.Call.{Call}
-use Rattle.c_grammar.specs.declared.right.Call.TheVariants as call
-use Rattle.c_grammar.specs.declared.right.Right.{Right}
-use Rattle.c_grammar.specs.declared.right.Right.TheVariants as right
-use Rattle.c_grammar.specs.Tokens.{round_open, round_close, brace_open, brace_close, square_open, square_close, semicolon, equals, star, assert_key, break_key, client_in_key, client_out_key, dsu_choice_key, dsu_force_key, dsu_update_key, dsu_updated_key, else_key, if_key, int_key, return_key, void_key, while_key}
-use Rattle.c_expressions.specs.Code.ParseSteps.{◌>>=◌, after, after_key, named, name_at, number_at, choose, separated}
+use Rattle.c_grammar.specs.Tokens.{round_open, round_close, brace_open, brace_close, square_open, square_close, semicolon, equals, assert_key, break_key, client_in_key, client_out_key, dsu_choice_key, dsu_force_key, dsu_update_key, dsu_updated_key, else_key, if_key, int_key, return_key, while_key}
+use Rattle.c_expressions.specs.Code.ParseSteps.{◌>>=◌, after, after_key, named, name_at, number_at, choose}
 use Rattle.c_expressions.specs.Code.ExpressionReading.{Found, expr}
 use Rattle.c_expressions.specs.Code.SideReading.{Called, call_at, input_at, choice_at, right_side, condition, pointer_at}
 use Rattle.c_grammar.specs.Scopes.{Scope, declare, refuse_arity, is_merge, is_client}
