@@ -8,9 +8,9 @@ ghost use Rattle.c_grammar.specs.Units as units;
 use crate::parts::{Parts, arity_refusals, array_refusals};
 use c_expressions::front::{after, name_at, number_at, skip};
 use c_expressions::parse_error::ParseError;
+use c_expressions::pointer::pointer_at;
 use c_lang::{GlobalVar, Name, Pos, Refusal, Shape};
 use c_lexer::{Token, punctuator};
-use c_expressions::pointer::pointer_at;
 use sqlite_items::Items;
 use std::alloc::{AllocError, Global};
 

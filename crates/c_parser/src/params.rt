@@ -8,9 +8,9 @@ ghost use Rattle.c_grammar.specs.Units as units;
 use crate::parts::arity_refusals;
 use c_expressions::front::{after, after_key, name_at, skip, skip_key};
 use c_expressions::parse_error::ParseError;
+use c_expressions::pointer::pointer_at;
 use c_lang::{Kind, Name, Pos, Refusal};
 use c_lexer::{Token, keyword, punctuator};
-use c_expressions::pointer::pointer_at;
 use sqlite_items::Items;
 use std::alloc::{AllocError, Global};
 
