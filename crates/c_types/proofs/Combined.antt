@@ -8,6 +8,7 @@ use Rattle.c_lang.specs.declared.refusal.Refusal.{Refusal}
 use Rattle.c_lang.specs.declared.stmt.Kind.{Kind}
 use Rattle.c_lang.specs.declared.stmt.Kind.TheVariants.{Int, Fp}
 use Rattle.c_lang.specs.Kinds.{same_kind}
+use Rattle.c_lang.specs.Refusals as numbers
 use Rattle.c_types.specs.Names.{smaller, fits}
 use Rattle.c_types.specs.Checks.{at_place, first}
 
@@ -92,7 +93,7 @@ same_itself Int = refl
 same_itself (Fp n) = grind (arith, nat_tests)
 
 pub fit_sound : (p k : Kind) → fits p k ≡ None → p ≡ k
-fit_sound p k h = same_sound p k (test_true (same_kind p k) 10 h)
+fit_sound p k h = same_sound p k (test_true (same_kind p k) numbers.wrong_kind h)
 
 pub fit_itself : (p k : Kind) → p ≡ k → fits p k ≡ None
 fit_itself p k h = rw (h, same_itself k) refl

@@ -3,6 +3,7 @@ use Rattle.std.proofs.Common.{◌≡◌, zero, suc, ℤ, pos, negsuc, Some, None
 use Rattle.c_lang.specs.Trees.{Expression, literal, variable, element, function, null, negation, logical_not, binary}
 use Rattle.c_lang.specs.declared.stmt.Kind.{Kind}
 use Rattle.c_lang.specs.declared.stmt.Kind.TheVariants.{Int, Fp}
+use Rattle.c_lang.specs.Refusals as numbers
 use Rattle.c_types.specs.Names.{Means, Cell, Array, Code, Refused, Names, smaller, fits}
 use Rattle.c_types.specs.Expressions.{wrong_name, wrong_function, wrong_array, wrong_literal, wrong_null, place_of, wrong}
 use Rattle.c_types.specs.Typing.{IsValue, IsFunction, IsArray, IsLiteral, IsPointer, IsTyped}
@@ -10,9 +11,9 @@ use Rattle.c_types.proofs.Combined.{some_none, both_none, fit_sound, fit_itself}
 
 value_sound : (p : Kind) (m : Means) → wrong_name p m ≡ None → IsValue p m
 value_sound p (Cell k) h = fit_sound p k h
-value_sound p Array h = absurd (some_none 10 h)
+value_sound p Array h = absurd (some_none numbers.wrong_kind h)
 value_sound p (Code params gives (Some n) denied) h = fit_sound p (Fp n) h
-value_sound p (Code params gives None denied) h = absurd (some_none 15 h)
+value_sound p (Code params gives None denied) h = absurd (some_none numbers.not_pointable h)
 value_sound p (Refused n) h = absurd (some_none n h)
 
 value_complete : (p : Kind) (m : Means) → IsValue p m → wrong_name p m ≡ None
@@ -24,9 +25,9 @@ value_complete p (Refused n) h = absurd h
 
 pub function_sound : (p : Kind) (m : Means) → wrong_function p m ≡ None → IsFunction p m
 function_sound p (Code params gives (Some n) denied) h = fit_sound p (Fp n) h
-function_sound p (Code params gives None denied) h = absurd (some_none 15 h)
-function_sound p (Cell k) h = absurd (some_none 10 h)
-function_sound p Array h = absurd (some_none 10 h)
+function_sound p (Code params gives None denied) h = absurd (some_none numbers.not_pointable h)
+function_sound p (Cell k) h = absurd (some_none numbers.wrong_kind h)
+function_sound p Array h = absurd (some_none numbers.wrong_kind h)
 function_sound p (Refused n) h = absurd (some_none n h)
 
 pub function_complete : (p : Kind) (m : Means) → IsFunction p m → wrong_function p m ≡ None
@@ -38,8 +39,8 @@ function_complete p (Refused n) h = absurd h
 
 pub array_sound : (m : Means) → wrong_array m ≡ None → IsArray m
 array_sound Array h = tt
-array_sound (Cell k) h = absurd (some_none 10 h)
-array_sound (Code params gives value denied) h = absurd (some_none 10 h)
+array_sound (Cell k) h = absurd (some_none numbers.wrong_kind h)
+array_sound (Code params gives value denied) h = absurd (some_none numbers.wrong_kind h)
 array_sound (Refused n) h = absurd (some_none n h)
 
 pub array_complete : (m : Means) → IsArray m → wrong_array m ≡ None
@@ -51,15 +52,15 @@ array_complete (Refused n) h = absurd h
 literal_sound : (p : Kind) (z : ℤ) → wrong_literal p z ≡ None → IsLiteral p z
 literal_sound Int z h = tt
 literal_sound (Fp n) (pos zero) h = refl
-literal_sound (Fp n) (pos (suc m)) h = absurd (some_none 10 h)
-literal_sound (Fp n) (negsuc m) h = absurd (some_none 10 h)
+literal_sound (Fp n) (pos (suc m)) h = absurd (some_none numbers.wrong_kind h)
+literal_sound (Fp n) (negsuc m) h = absurd (some_none numbers.wrong_kind h)
 
 literal_complete : (p : Kind) (z : ℤ) → IsLiteral p z → wrong_literal p z ≡ None
 literal_complete Int z h = refl
 literal_complete (Fp n) z h = rw h refl
 
 null_sound : (p : Kind) → wrong_null p ≡ None → IsPointer p
-null_sound Int h = absurd (some_none 10 h)
+null_sound Int h = absurd (some_none numbers.wrong_kind h)
 null_sound (Fp n) h = tt
 
 null_complete : (p : Kind) → IsPointer p → wrong_null p ≡ None

@@ -24,6 +24,7 @@ use Rattle.c_types.specs.Statements.{block_in, entered, refusal_in}
 use Rattle.c_types.specs.Functions.{kinds_of, is_wide, any_wide, wrong_params_count, scope_of, with_param, params_block, wrong_params, is_main, wrong_end, wrong_head, body_scope, refusal_of_func}
 use Rattle.c_types.specs.Programs.{with_global, with_globals, with_func, with_funcs, outside_of, wrong_again, wrong_initial, early_number, wrong_shape, cells_of, wrong_cells, wrong_global, refusal_of_globals, wrong_match, wrong_proto, refusal_of_protos, refusal_of_funcs, has_main, wrong_main, first_early, first_line, refusal_of_declarations, refusal_of_whole, first_refusal}
 use Rattle.c_lang.specs.Limits.{cell_limit}
+use Rattle.c_lang.specs.Refusals as numbers
 use Rattle.c_types.specs.Typing.{IsNarrow}
 use Rattle.c_types.specs.Types.{IsInitial, IsHeld, IsTypedGlobal, AreTypedGlobals, AreNarrow, IsMatch, AreTypedProtos, AreParams, IsTypedFunc, AreTypedFuncs, Types}
 use Rattle.c_types.proofs.Combined.{some_none, both_none, smaller_none, first_none, none_first, at_none, none_at, test_false, test_true, not_some, either_false, both_true, same_sound, same_itself}
@@ -33,7 +34,7 @@ use Rattle.c_types.proofs.StatementsTyped.{narrow_sound, narrow_complete, fresh_
 -- ---- globals
 
 again_sound : (seen : Entries) (x : Bytes) → wrong_again seen x ≡ None → found seen x ≡ None
-again_sound seen x h = not_some (found seen x) (test_false (is_some (found seen x)) 7 h)
+again_sound seen x h = not_some (found seen x) (test_false (is_some (found seen x)) numbers.duplicate h)
 
 again_complete : (seen : Entries) (x : Bytes) → found seen x ≡ None → wrong_again seen x ≡ None
 again_complete seen x h = rw h refl
@@ -51,7 +52,7 @@ initial_complete outside (shape.Fp n None) h = refl
 initial_complete outside (shape.Fp n (Some f)) h = function_complete (Fp n) (meant (found outside f)) h
 
 cells_sound : (room cells : ℕ) → wrong_cells room cells ≡ None → cells ≤ room
-cells_sound room cells h = let e = test_false (nat_lt room cells) 27 h in grind (arith, nat_tests, e)
+cells_sound room cells h = let e = test_false (nat_lt room cells) numbers.past_limit h in grind (arith, nat_tests, e)
 
 cells_complete : (room cells : ℕ) → cells ≤ room → wrong_cells room cells ≡ None
 cells_complete room cells h = let e : nat_lt room cells ≡ false = grind (arith, nat_tests, h) in rw e refl
@@ -125,7 +126,7 @@ none_wide (k ∷ ks) h = rw (wide_complete k h.0) (none_wide ks h.1)
 
 count_sound : (ks : List Kind) → wrong_params_count ks ≡ None → (length ks ≤ 32) × AreNarrow ks
 count_sound ks h =
-    let q = either_false (nat_lt 32 (length ks)) (any_wide ks) (test_false (nat_lt 32 (length ks) || any_wide ks) 27 h) in
+    let q = either_false (nat_lt 32 (length ks)) (any_wide ks) (test_false (nat_lt 32 (length ks) || any_wide ks) numbers.past_limit h) in
     let few = q.0 in (grind (arith, nat_tests, few), narrow_all ks q.1)
 
 count_complete : (ks : List Kind) → length ks ≤ 32 → AreNarrow ks → wrong_params_count ks ≡ None
@@ -154,12 +155,12 @@ same_result_itself false = refl
 
 match_sound : (o : Option Means) (p : Proto) → wrong_match o p ≡ None → IsMatch o p
 match_sound (Some (Code params gives value denied)) p h =
-    let q = both_true (same_kinds params p.params) (same_result gives p.gives) (test_true (same_kinds params p.params && same_result gives p.gives) 10 h) in
+    let q = both_true (same_kinds params p.params) (same_result gives p.gives) (test_true (same_kinds params p.params && same_result gives p.gives) numbers.wrong_kind h) in
     (kinds_sound params p.params q.0, same_result_sound gives p.gives q.1)
-match_sound (Some (Cell k)) p h = some_none 9 h
-match_sound (Some Array) p h = some_none 9 h
-match_sound (Some (Refused n)) p h = some_none 9 h
-match_sound None p h = some_none 9 h
+match_sound (Some (Cell k)) p h = some_none numbers.unknown h
+match_sound (Some Array) p h = some_none numbers.unknown h
+match_sound (Some (Refused n)) p h = some_none numbers.unknown h
+match_sound None p h = some_none numbers.unknown h
 
 match_complete : (o : Option Means) (p : Proto) → IsMatch o p → wrong_match o p ≡ None
 match_complete (Some (Code params gives value denied)) p h = rw (h.0, h.1, kinds_itself p.params, same_result_itself p.gives) refl
@@ -199,15 +200,15 @@ params_complete s before (p ∷ ps) b h =
     params_complete (with_param s p) (smaller before (wrong_fresh params_block s p.0 p.1)) ps
     (smaller_none _ _ b (fresh_complete params_block s p.0 p.1 h.0)) h.1
 
-end_sound : (gives main ends : Bool) → if◌then◌else◌ {A = Option ℕ} (gives && not main && ends) (Some 12) None ≡ None
+end_sound : (gives main ends : Bool) → if◌then◌else◌ {A = Option ℕ} (gives && not main && ends) (Some numbers.missing_return) None ≡ None
     → gives ≡ true → main ≡ false → ends ≡ false
-end_sound true false true h g m = absurd (some_none 12 h)
+end_sound true false true h g m = absurd (some_none numbers.missing_return h)
 end_sound true false false h g m = refl
 end_sound true true ends h g m = absurd cc
 end_sound false main ends h g m = absurd cc
 
 end_complete : (gives main ends : Bool) → (gives ≡ true → main ≡ false → ends ≡ false)
-    → if◌then◌else◌ {A = Option ℕ} (gives && not main && ends) (Some 12) None ≡ None
+    → if◌then◌else◌ {A = Option ℕ} (gives && not main && ends) (Some numbers.missing_return) None ≡ None
 end_complete true false ends h = rw (h refl refl) refl
 end_complete true true ends h = refl
 end_complete false main ends h = refl
@@ -282,7 +283,7 @@ types u p h =
       globals = globals_sound p.early outside [] (cell_limit u) p.globals c.0;
       protos = protos_sound (with_funcs [] p.funcs) p.protos c.1;
       funcs = funcs_sound outside false (with_globals [] p.globals) p.funcs b.0;
-      main = test_true (has_main p.funcs) 13 (at_none _ (first_line u) d.0);
+      main = test_true (has_main p.funcs) numbers.no_start (at_none _ (first_line u) d.0);
       early = early_sound p.early d.1;
     }
 

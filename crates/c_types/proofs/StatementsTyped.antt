@@ -9,6 +9,7 @@ use Rattle.c_lang.specs.declared.stmt.Dest.{Dest}
 use Rattle.c_lang.specs.declared.stmt.Dest.TheVariants.{Nowhere, Into, Fresh}
 use Rattle.c_lang.specs.declared.stmt.Kind.{Kind}
 use Rattle.c_lang.specs.declared.stmt.Kind.TheVariants.{Int, Fp}
+use Rattle.c_lang.specs.Refusals as numbers
 use Rattle.c_types.specs.Names.{Means, Cell, Array, Code, Refused, Names, found, stands_from, stands_before, smaller}
 use Rattle.c_types.specs.Scopes.{Scope, Block, in_scope, names_of, is_another, kind_of_dest, wrong_kind, wrong_fresh, wrong_target, wrong_dest, wrong_effect, names_version}
 use Rattle.c_types.specs.Expressions.{wrong, wrong_array, own_kind}
@@ -23,20 +24,20 @@ use Rattle.c_types.proofs.ExpressionsTyped.{array_sound, array_complete, typed, 
 
 pub narrow_sound : (k : Kind) → wrong_kind k ≡ None → IsNarrow k
 narrow_sound Int h = tt
-narrow_sound (Fp n) h = let e = test_false (nat_lt 32 n) 27 h in grind (arith, nat_tests, e)
+narrow_sound (Fp n) h = let e = test_false (nat_lt 32 n) numbers.past_limit h in grind (arith, nat_tests, e)
 
 pub narrow_complete : (k : Kind) → IsNarrow k → wrong_kind k ≡ None
 narrow_complete Int h = refl
 narrow_complete (Fp n) h = let e : nat_lt 32 n ≡ false = grind (arith, nat_tests, h) in rw e refl
 
 five_tests : (a b c d e : Bool)
-    → if◌then◌else◌ {A = Option ℕ} a (Some 7) (if b then Some 7 else if c then Some 8 else if d then Some 8 else if e then Some 8 else None) ≡ None
+    → if◌then◌else◌ {A = Option ℕ} a (Some numbers.duplicate) (if b then Some numbers.duplicate else if c then Some numbers.shadowed else if d then Some numbers.shadowed else if e then Some numbers.shadowed else None) ≡ None
     → (a ≡ false) × (b ≡ false) × (c ≡ false) × (d ≡ false) × (e ≡ false)
-five_tests true b c d e h = absurd (some_none 7 h)
-five_tests false true c d e h = absurd (some_none 7 h)
-five_tests false false true d e h = absurd (some_none 8 h)
-five_tests false false false true e h = absurd (some_none 8 h)
-five_tests false false false false true h = absurd (some_none 8 h)
+five_tests true b c d e h = absurd (some_none numbers.duplicate h)
+five_tests false true c d e h = absurd (some_none numbers.duplicate h)
+five_tests false false true d e h = absurd (some_none numbers.shadowed h)
+five_tests false false false true e h = absurd (some_none numbers.shadowed h)
+five_tests false false false false true h = absurd (some_none numbers.shadowed h)
 five_tests false false false false false h = (refl, refl, refl, refl, refl)
 
 pub fresh_sound : (b : Block) (s : Scope) (k : Kind) (x : Bytes) → wrong_fresh b s k x ≡ None → IsFresh b s k x
@@ -49,8 +50,8 @@ fresh_complete b s k x h = rw (h.new, h.alike, h.free, h.kept, h.own) refl
 
 target_sound : (m : Means) → wrong_target m ≡ None → IsCell m
 target_sound (Cell k) h = tt
-target_sound Array h = absurd (some_none 10 h)
-target_sound (Code params gives value denied) h = absurd (some_none 10 h)
+target_sound Array h = absurd (some_none numbers.wrong_kind h)
+target_sound (Code params gives value denied) h = absurd (some_none numbers.wrong_kind h)
 target_sound (Refused n) h = absurd (some_none n h)
 
 target_complete : (m : Means) → IsCell m → wrong_target m ≡ None
@@ -72,14 +73,14 @@ dest_complete b s (Fresh k x) h =
     smaller_none (wrong_fresh b s k x) (wrong_kind k) (fresh_complete b s k x h.0) (narrow_complete k h.1)
 
 effect_sound : (s : Scope) → wrong_effect s ≡ None → s.xform ≡ false
-effect_sound s h = test_false s.xform 19 h
+effect_sound s h = test_false s.xform numbers.transformer_effect h
 
 -- ---- results and arguments
 
 result_sound : (gives : Bool) (o : Option Kind) → wrong_result gives o ≡ None → (gives ≡ true) × TakesInt o
 result_sound true None h = (refl, tt)
 result_sound true (Some k) h = (refl, fit_sound k Int h)
-result_sound false o h = absurd (some_none 14 h)
+result_sound false o h = absurd (some_none numbers.void_use h)
 
 result_complete : (gives : Bool) (o : Option Kind) → (gives ≡ true) × TakesInt o → wrong_result gives o ≡ None
 result_complete gives None h = rw h.0 refl
@@ -107,7 +108,7 @@ places_sound names (k ∷ ks) (e ∷ es) c h =
 args_sound : (names : Names) (ks : List Kind) (es : List Expression) → wrong_args names ks es ≡ None → AreArguments names ks es
 args_sound names ks es h =
     let q = both_none (wrong_count (length ks) (length es)) (wrong_places names ks es) h in
-    let e = test_true (nat_eq (length ks) (length es)) 11 q.0 in
+    let e = test_true (nat_eq (length ks) (length es)) numbers.argument_count q.0 in
     places_sound names ks es (grind (arith, nat_tests, e)) q.1
 
 same_length : (names : Names) (ks : List Kind) (es : List Expression) → AreArguments names ks es → length ks ≡ length es
@@ -135,7 +136,7 @@ denied_sound : {X : Type 0} (n : ℕ) (o : Option ℕ) → smaller (Some n) o �
 denied_sound n o h = absurd (some_none n (both_none (Some n) o h).0)
 
 pointer_sound : (s : Scope) (k : Kind) (d : Dest) (es : List Expression) → wrong_pointer s k d es ≡ None → IsPointerCall s k d es
-pointer_sound s Int d es h = denied_sound 10 (wrong_each (names_of s) es) h
+pointer_sound s Int d es h = denied_sound numbers.wrong_kind (wrong_each (names_of s) es) h
 pointer_sound s (Fp n) d es h =
     let q = both_none (wrong_effect s) (smaller (wrong_use s true d) (wrong_args (names_of s) (ints n) es)) h in
     let r = both_none (wrong_use s true d) (wrong_args (names_of s) (ints n) es) q.1 in
@@ -151,7 +152,7 @@ call_sound s (Code params gives value denied) d es h =
     let r = both_none (wrong_use s gives d) (wrong_args (names_of s) params es) q.1 in
     (q.0, use_sound s gives d r.0, args_sound (names_of s) params es r.1)
 call_sound s (Cell k) d es h = pointer_sound s k d es h
-call_sound s Array d es h = denied_sound 10 (wrong_each (names_of s) es) h
+call_sound s Array d es h = denied_sound numbers.wrong_kind (wrong_each (names_of s) es) h
 call_sound s (Refused n) d es h = denied_sound n (wrong_each (names_of s) es) h
 
 call_complete : (s : Scope) (m : Means) (d : Dest) (es : List Expression) → IsCall s m d es → wrong_call s m d es ≡ None
@@ -163,8 +164,8 @@ call_complete s (Refused n) d es h = absurd h
 
 call_by_sound : (s : Scope) (m : Means) (d : Dest) (es : List Expression) → wrong_call_by s m d es ≡ None → IsCallBy s m d es
 call_by_sound s (Cell k) d es h = pointer_sound s k d es h
-call_by_sound s (Code params gives value denied) d es h = denied_sound 10 (wrong_each (names_of s) es) h
-call_by_sound s Array d es h = denied_sound 10 (wrong_each (names_of s) es) h
+call_by_sound s (Code params gives value denied) d es h = denied_sound numbers.wrong_kind (wrong_each (names_of s) es) h
+call_by_sound s Array d es h = denied_sound numbers.wrong_kind (wrong_each (names_of s) es) h
 call_by_sound s (Refused n) d es h = denied_sound n (wrong_each (names_of s) es) h
 
 call_by_complete : (s : Scope) (m : Means) (d : Dest) (es : List Expression) → IsCallBy s m d es → wrong_call_by s m d es ≡ None
@@ -174,10 +175,10 @@ call_by_complete s Array d es h = absurd h
 call_by_complete s (Refused n) d es h = absurd h
 
 return_sound : (names : Names) (gives : Bool) (e : Option Expression) → wrong_return names gives e ≡ None → IsReturn names gives e
-return_sound names true None h = absurd (some_none 12 h)
+return_sound names true None h = absurd (some_none numbers.missing_return h)
 return_sound names false None h = tt
 return_sound names true (Some e) h = typed names Int e h
-return_sound names false (Some e) h = denied_sound 14 (wrong names (own_kind names e) e) h
+return_sound names false (Some e) h = denied_sound numbers.void_use (wrong names (own_kind names e) e) h
 
 return_complete : (names : Names) (gives : Bool) (e : Option Expression) → IsReturn names gives e → wrong_return names gives e ≡ None
 return_complete names true None h = absurd h

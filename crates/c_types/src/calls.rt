@@ -43,10 +43,10 @@ pub fn element_kind(scope: &Scope, array: Option<&Means>, e: &Expr) -> Kind
 pub fn wrong_element(scope: &Scope, array: &Name, index: &Expr, value: &Expr) -> Option<u8>
     ensures { result ≡ spec.wrong_element (names_of (seen_scope scope.now)) array.now (expression_of index.now) (expression_of value.now) }
 {
-    let row = scope.look(array);
-    let kind = element_kind(scope, row, value);
+    let means = scope.look(array);
+    let kind = element_kind(scope, means, value);
     let inside = smaller(wrong(scope, Kind::Int, index), wrong(scope, kind, value));
-    smaller(wrong_array(row), inside)
+    smaller(wrong_array(means), inside)
 }
 
 fn first_place(scope: &Scope, places: &[Kind], e: &Expr) -> Kind

@@ -17,7 +17,7 @@ use Rattle.version_names.specs.Home.{Home, Linked, same_linked}
 use Rattle.version_names.specs.Home as home
 use Rattle.version_names.specs.Provenance.{Provenance, may_update}
 use Rattle.version_names.specs.Provenance as origin
-use Rattle.merge_core.specs.UpdatingRun.{State, UpdFrame, UpdConfig, cell_meaning, function_meaning, code_of, updating_access, swapped_state, swapped, picked, update, step_updating}
+use Rattle.update_semantics.specs.UpdatingRun.{State, UpdFrame, UpdConfig, cell_meaning, function_meaning, code_of, updating_access, swapped_state, swapped, picked, update, step_updating}
 use Rattle.plain_run.proofs.Simulation.{Comes, Matches, Holds, same_from}
 use Rattle.c_lang.specs.declared.unit.Pos.{Pos}
 use Rattle.c_lang.specs.declared.event.Trap.{Trap}

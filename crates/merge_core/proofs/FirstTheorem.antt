@@ -16,7 +16,7 @@ use Rattle.version_names.specs.Home.{Home, Linked}
 use Rattle.version_names.specs.Home as home
 use Rattle.version_names.specs.Provenance.{Provenance}
 use Rattle.version_names.specs.Provenance as origin
-use Rattle.merge_core.specs.UpdatingRun.{World, State, swapped_state, UpdFrame, cell_meaning, function_meaning, code_of, updating_access, first_state, start_updating}
+use Rattle.update_semantics.specs.UpdatingRun.{World, State, swapped_state, UpdFrame, cell_meaning, function_meaning, code_of, updating_access, first_state, start_updating}
 use Rattle.plain_run.proofs.Simulation.{silently, goes_once}
 use Rattle.c_lang.specs.declared.unit.Pos.{Pos}
 use Rattle.c_lang.specs.declared.unit.Unit.TheVariants as unit

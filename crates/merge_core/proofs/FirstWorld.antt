@@ -13,7 +13,7 @@ use Rattle.version_names.specs.Home.{Home, Linked, same_home}
 use Rattle.version_names.specs.Home as home
 use Rattle.version_names.specs.Provenance.{Provenance}
 use Rattle.version_names.specs.Provenance as origin
-use Rattle.merge_core.specs.UpdatingRun.{World, old_or_new, linked_by_prefix, cell_meaning, function_meaning}
+use Rattle.update_semantics.specs.UpdatingRun.{World, old_or_new, linked_by_prefix, cell_meaning, function_meaning}
 use Rattle.c_lang.specs.declared.unit.Unit.TheVariants as unit
 use Rattle.c_lang.specs.declared.program.GlobalVar.{GlobalVar}
 use Rattle.c_lang.specs.declared.program.Func.{Func}

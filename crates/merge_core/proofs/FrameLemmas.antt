@@ -14,7 +14,7 @@ use Rattle.version_names.specs.Version as version
 use Rattle.version_names.specs.Home.{Linked}
 use Rattle.version_names.specs.Provenance.{Provenance}
 use Rattle.version_names.specs.Provenance as origin
-use Rattle.merge_core.specs.UpdatingRun.{State, UpdFrame, UpdConfig, cell_meaning, updating_access}
+use Rattle.update_semantics.specs.UpdatingRun.{State, UpdFrame, UpdConfig, cell_meaning, updating_access}
 use Rattle.plain_run.proofs.Simulation.{Comes, goes_once, then_leads, silently}
 use Rattle.c_lang.specs.declared.event.Event.TheVariants as event
 use Rattle.c_lang.specs.declared.expr.Expr.TheVariants.{Var}

@@ -13,7 +13,7 @@ use Rattle.version_names.specs.Provenance.{Provenance}
 use Rattle.version_names.specs.Provenance as origin
 use Rattle.version_names.specs.Links.{cell_part, code_part}
 use Rattle.c_lang.specs.Programs.{func_named}
-use Rattle.merge_core.specs.UpdatingRun.{World, old_or_new, linked_by_prefix, client_funcs, cell_meaning, function_meaning}
+use Rattle.update_semantics.specs.UpdatingRun.{World, old_or_new, linked_by_prefix, client_funcs, cell_meaning, function_meaning}
 use Rattle.merge_core.proofs.MergedStatements.{now_name, choice_name}
 use Rattle.merge_core.proofs.Relation.{Naming}
 

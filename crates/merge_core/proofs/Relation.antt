@@ -12,7 +12,7 @@ use Rattle.version_names.specs.Version as version
 use Rattle.version_names.specs.Home.{Home, Linked, same_linked}
 use Rattle.version_names.specs.Home as home
 use Rattle.version_names.specs.Provenance.{Provenance}
-use Rattle.merge_core.specs.UpdatingRun.{World, State, UpdFrame, UpdConfig, cell_meaning, function_meaning, swapped_state, step_updating}
+use Rattle.update_semantics.specs.UpdatingRun.{World, State, UpdFrame, UpdConfig, cell_meaning, function_meaning, swapped_state, step_updating}
 use Rattle.plain_run.proofs.Simulation.{Matches}
 use Rattle.c_lang.specs.declared.unit.Pos.{Pos}
 use Rattle.c_lang.specs.declared.stmt.Kind.TheVariants as kind

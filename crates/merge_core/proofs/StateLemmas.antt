@@ -15,7 +15,7 @@ use Rattle.version_names.specs.Version as version
 use Rattle.version_names.specs.Home.{Home, Linked, same_home, same_linked}
 use Rattle.version_names.specs.Home as home
 use Rattle.version_names.specs.Provenance.{Provenance}
-use Rattle.merge_core.specs.UpdatingRun.{State, UpdFrame, UpdConfig, put_linked, cell_meaning, updating_access, swapped_state}
+use Rattle.update_semantics.specs.UpdatingRun.{State, UpdFrame, UpdConfig, put_linked, cell_meaning, updating_access, swapped_state}
 use Rattle.plain_run.proofs.Simulation.{goes_once}
 use Rattle.c_lang.specs.declared.unit.Pos.{Pos}
 use Rattle.c_lang.specs.declared.event.Trap.{Trap}

@@ -16,7 +16,7 @@ use Rattle.version_names.specs.Home.{Home, Linked}
 use Rattle.version_names.specs.Home as home
 use Rattle.version_names.specs.Provenance.{Provenance, may_update}
 use Rattle.version_names.specs.Provenance as origin
-use Rattle.merge_core.specs.UpdatingRun.{State, UpdFrame, UpdConfig, cell_meaning, function_meaning, version_code, code_of, updating_access, swapped_state, swapped, picked, update, step_updating}
+use Rattle.update_semantics.specs.UpdatingRun.{State, UpdFrame, UpdConfig, cell_meaning, function_meaning, version_code, code_of, updating_access, swapped_state, swapped, picked, update, step_updating}
 use Rattle.plain_run.proofs.Simulation.{Leads, Comes, matches_after, goes_once, silently, comes_on, takes_once, comes_takes, takes_comes, waits_there, comes_waits, ends_there}
 use Rattle.c_lang.specs.declared.unit.Pos.{Pos}
 use Rattle.c_lang.specs.declared.event.Trap.TheVariants.{Assert, NullCall}

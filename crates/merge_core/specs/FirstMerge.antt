@@ -6,7 +6,7 @@ use Rattle.c_lines.specs.Sources as source
 use Rattle.c_lines.specs.Layout.{Layout, IsLayout, Expansion, Piece, Main, layout_program}
 use Rattle.c_lines.specs.Layout as layout
 use Rattle.plain_run.specs.PlainRun.{Obs}
-use Rattle.merge_core.specs.UpdatingRun.{World, ObsU}
+use Rattle.update_semantics.specs.UpdatingRun.{World, ObsU}
 use Rattle.c_lang.specs.declared.unit.Pos.{Pos}
 use Rattle.c_lang.specs.declared.unit.Unit.{Unit}
 use Rattle.c_lang.specs.declared.unit.Unit.TheVariants as unit

@@ -1,3 +1,2 @@
-pub mod UpdatingRun
 pub mod FirstMerge
 pub mod Code

@@ -20,6 +20,7 @@ use Rattle.c_types.specs.Checks.{first as or_then, Checked}
 use Rattle.c_types.specs.Functions.{refusal_of_func}
 use Rattle.c_types.specs.Programs.{with_func, with_funcs, wrong_global, refusal_of_protos, first_early}
 use Rattle.c_lang.specs.Limits.{cell_limit}
+use Rattle.c_lang.specs.Refusals as numbers
 use Rattle.c_types.proofs.Combined.{some_none, both_none, first_none, none_first, at_none, test_false, not_some, either_false}
 use Rattle.version_names.specs.Merged.{merged_name}
 use Rattle.version_names.specs.Parts.{part_at, part_of, is_changed_cell, IsLinked}
@@ -41,7 +42,7 @@ no_globals : (early : List Refusal) (outside : Entries) (gs : List GlobalVar) �
 no_globals early outside [] h = refl
 no_globals early outside (g ∷ gs) h =
     let alone = wrong_global early outside [] (cell_limit unit.Xform) g in
-    absurd (some_none 19 (both_none (Some 19) alone (at_none (smaller (Some 19) alone) g.pos h)).0)
+    absurd (some_none numbers.transformer_effect (both_none (Some numbers.transformer_effect) alone (at_none (smaller (Some numbers.transformer_effect) alone) g.pos h)).0)
 
 -- ---- functions
 
@@ -63,7 +64,7 @@ module _ (parts : Parts) where
 
   name_sound : (seen : Entries) (x : Bytes) → wrong_own_name parts seen x ≡ None → IsOwnName parts seen x
   name_sound seen x h =
-      let t = test_false ((is_some (found seen x) || in_version parts x) || names_version x) 7 h in
+      let t = test_false ((is_some (found seen x) || in_version parts x) || names_version x) numbers.duplicate h in
       let p = either_false (is_some (found seen x) || in_version parts x) (names_version x) t in
       let q = either_false (is_some (found seen x)) (in_version parts x) p.0 in
       record { new = not_some (found seen x) q.0; free = nowhere x q.1; plain = p.1 }

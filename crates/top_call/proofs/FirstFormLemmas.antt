@@ -14,9 +14,9 @@ use Rattle.c_lang.specs.declared.stmt.Stmt.TheOpen as one
 use Rattle.c_lang.specs.declared.stmt.Stmt.TheVariants as stmt
 use Rattle.c_lang.specs.declared.program.Program.{Program}
 use Rattle.merge_core.specs.FirstMerge.{AreFirst}
-use Rattle.top_call.specs.Conditions.{AllHold}
+use Rattle.front_end.specs.Conditions.{AllHold}
 use Rattle.top_call.specs.FirstForm.{number_name, AssignsIn, Assigns, AssignsOnly, program_conditions}
-use Rattle.top_call.specs.Merge.{Texts, size_conditions}
+use Rattle.front_end.specs.Worlds.{Texts, size_conditions}
 
 Some-injective : {X : Type 0} (x y : X) → Some x ≡ Some y → x ≡ y
 Some-injective x y is = cc

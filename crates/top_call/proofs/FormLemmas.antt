@@ -6,8 +6,9 @@ use Rattle.c_lang.specs.declared.program.Program.{Program}
 use Rattle.c_lang.specs.declared.refusal.Fail.{Fail}
 use Rattle.c_lang.specs.declared.refusal.Fail.TheVariants.{NoMemory, Refused}
 use Rattle.c_lines.specs.Refusals.{IsRefusedForm}
-use Rattle.top_call.specs.Conditions.{IsRefusedBy}
-use Rattle.top_call.specs.Merge.{Texts, form_conditions}
+use Rattle.front_end.specs.Conditions.{IsRefusedBy}
+use Rattle.front_end.specs.Worlds.{Texts}
+use Rattle.top_call.specs.Merge.{form_conditions}
 
 pub old-refused : (texts : Texts) (fail : Fail) → IsRefusedForm fail Old texts.old → IsRefusedBy (form_conditions texts) fail
 old-refused texts NoMemory is = tt

@@ -10,8 +10,10 @@ use Rattle.c_lang.specs.declared.refusal.Refusal.{Refusal}
 use Rattle.top_call.specs.Words.{Text, UpdateFiles, Request, Merge}
 use Rattle.top_call.specs.Replies.{Reply}
 use Rattle.top_call.specs.Held.{IsHeld}
-use Rattle.top_call.specs.Conditions.{Condition, AllHold, IsFirstRefusal}
-use Rattle.top_call.specs.Merge.{Texts, AreHeld, MergeAllows, conditions}
+use Rattle.front_end.specs.Conditions.{AllHold}
+use Rattle.front_end.proofs.ConditionLemmas.{all-first, no-refusal}
+use Rattle.front_end.specs.Worlds.{Texts, size_conditions}
+use Rattle.top_call.specs.Merge.{AreHeld, MergeAllows, conditions}
 use Rattle.top_call.specs.MergedText.{IsMergedText}
 use Rattle.top_call.specs.Around.{Around, Put}
 use Rattle.top_call.specs.Outcome.{Outcome}
@@ -48,18 +50,25 @@ appended (Some old) (Some new) written text is put =
     ap (λ (t : Text). Some t) (put ∙ ap (λ (t : Text). t ++ text) (let same : old ≡ written = cc in same))
 
 module _ (around : Around) (update : UpdateFiles) (texts : Texts) (hold : Hold around update texts) where
-  -- the texts that were read, where they were accepted
-  accepted-whole : (read : Texts) → AreHeld around.held update read → AllHold (conditions read) → read ≡ texts
-  accepted-whole read held (old, (new, (xform, _))) =
+  -- the texts that were read, where they are within their limits
+  pub whole-within : (read : Texts) → AreHeld around.held update read → AllHold (size_conditions read) → read ≡ texts
+  whole-within read held (old, (new, (xform, _))) =
       same-texts read texts (read-whole around.held Old update.old read.old texts.old held.old hold.old old)
       (read-whole around.held New update.new read.new texts.new held.new hold.new new)
       (read-whole around.held Xform update.xform read.xform texts.xform held.xform hold.xform xform)
 
-  whole-if-accepted : (read : Texts) → AreHeld around.held update read → AllHold (conditions texts) → texts ≡ read
-  whole-if-accepted read held (old, (new, (xform, _))) =
+  -- the same where what is held is within the limits
+  pub within-whole : (read : Texts) → AreHeld around.held update read → AllHold (size_conditions texts) → texts ≡ read
+  within-whole read held (old, (new, (xform, _))) =
       sym (same-texts read texts (read-accepted around.held Old update.old read.old texts.old held.old hold.old old)
       (read-accepted around.held New update.new read.new texts.new held.new hold.new new)
       (read-accepted around.held Xform update.xform read.xform texts.xform held.xform hold.xform xform))
+
+  accepted-whole : (read : Texts) → AreHeld around.held update read → AllHold (conditions read) → read ≡ texts
+  accepted-whole read held all = whole-within read held (all-first (size_conditions read) _ all)
+
+  whole-if-accepted : (read : Texts) → AreHeld around.held update read → AllHold (conditions texts) → texts ≡ read
+  whole-if-accepted read held all = within-whole read held (all-first (size_conditions texts) _ all)
 
   written-text : (written : Text) → around.written_before ≡ Some written
       → (reply : Reply) → MergeAllows around.held update reply → reply.status ≡ Done → Put around reply.text
@@ -72,13 +81,6 @@ module _ (around : Around) (update : UpdateFiles) (texts : Texts) (hold : Hold a
       subst (λ (t : Text). IsMergedText texts.old texts.new texts.xform t) (sym (ap (λ (r : Reply). r.text) is))
           (subst (λ (t : Texts). IsMergedText t.old t.new t.xform text) (accepted-whole read held accepted) merged),
     )
-  ]
-
-  no-refusal : (conditions : List Condition) (refusal : Refusal) → AllHold conditions → IsFirstRefusal conditions refusal → ⊥
-  no-refusal [] refusal hold first = first
-  no-refusal (condition ∷ conditions) refusal hold first = elim first [
-    | inl fails ↦ fails.0 hold.0
-    | inr later ↦ no-refusal conditions refusal hold.1 later.1
   ]
 
   reply-is-done : (reply : Reply) → MergeAllows around.held update reply → AllHold (conditions texts) → reply.status ≡ Done

@@ -1,12 +1,11 @@
 pub mod ReadLemmas
 pub mod WordLemmas
-pub mod ConditionLemmas
 pub mod FormLemmas
 pub mod NameLemmas
 pub mod FirstFormLemmas
 pub mod HeadlineLemmas
 pub mod RunHeadlineLemmas
+pub mod ReplayHeadlineLemmas
 pub mod RunLemmas
-pub mod TypedTextLemmas
 pub mod RunWordLemmas
 pub mod NumberLemmas

@@ -4,9 +4,10 @@ use Rattle.c_lines.specs.Lines.{Lines}
 use Rattle.c_lang.specs.declared.unit.Unit.TheVariants.{Old, New, Xform}
 use Rattle.c_lang.specs.declared.program.Program.{Program}
 use Rattle.c_lang.specs.declared.refusal.Refusal.{Refusal}
-use Rattle.top_call.specs.Conditions.{AllHold, IsFirstRefusal}
+use Rattle.front_end.specs.Conditions.{AllHold, IsFirstRefusal}
 use Rattle.top_call.specs.FirstForm.{number_name, AssignsOnly, ShareNumber, AssignsNumber, program_conditions}
-use Rattle.top_call.specs.Merge.{Texts, name_conditions}
+use Rattle.front_end.specs.Worlds.{Texts}
+use Rattle.top_call.specs.Merge.{name_conditions}
 use Rattle.c_lines.proofs.Programs.{one as one-program}
 
 module _ (texts : Texts) (first second xform : Program) (old : Lines Old texts.old first) (new : Lines New texts.new second) (transformer : Lines Xform texts.xform xform) where

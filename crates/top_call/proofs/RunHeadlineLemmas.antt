@@ -7,7 +7,7 @@ use Rattle.c_lang.specs.declared.program.Program.{Program}
 use Rattle.top_call.specs.Words.{Text, RunRequest, Request, Run}
 use Rattle.top_call.specs.Replies.{Reply}
 use Rattle.top_call.specs.Held.{IsHeld}
-use Rattle.top_call.specs.TypedText.{IsTypedText}
+use Rattle.front_end.specs.TypedText.{IsTypedText}
 use Rattle.top_call.specs.Run.{IsRunOf, RunAllows, RunGoesDeep, GoesTooDeep}
 use Rattle.top_call.specs.Around.{Around, Put}
 use Rattle.top_call.specs.Outcome.{Outcome}
@@ -30,13 +30,13 @@ module _ (around : Around) (run : RunRequest) (text : Text) (hold : around.held 
       reply.text,
       appended around.written_before around.written_after written reply.text before put,
       subst (λ (t : Text). IsRunOf run text t) (sym (ap (λ (r : Reply). r.text) is))
-          (subst (λ (t : Text). IsRunOf run t lines) (whole read held shown.has_program.is_typed.within) shown),
+          (subst (λ (t : Text). IsRunOf run t lines) (whole read held shown.has_program.is_typed.is_program.within) shown),
     )
   ]
 
   module _ (program : Program) (typed : IsTypedText Merge text program) where
     accepted : (read : Text) → IsHeld around.held Merge run.file read → read ≡ text
-    accepted read is = read-accepted around.held Merge run.file read text is hold typed.within
+    accepted read is = read-accepted around.held Merge run.file read text is hold typed.is_program.within
 
     reply-is-done : (reply : Reply) → RunAllows around.held run reply → reply.status ≡ Done
     reply-is-done reply (read, held, runs) = elim runs [

@@ -12,7 +12,7 @@ use Rattle.c_lang.specs.declared.stmt.Stmt.TheOpen as one
 use Rattle.c_lang.specs.declared.program.GlobalVar.{GlobalVar}
 use Rattle.c_lang.specs.declared.program.Func.{Func}
 use Rattle.c_lang.specs.declared.program.Program.{Program}
-use Rattle.top_call.specs.Conditions.{Condition, refusal_at}
+use Rattle.front_end.specs.Conditions.{Condition, refusal_at, or_refused}
 use Rattle.top_call.specs.Words.{Text}
 
 -- the text is that of a program
@@ -42,8 +42,8 @@ AssignsOnly name program = All (λ (function : Func). All (Assigns name) functio
 -- What the three programs must meet by the names in them.
 abbrev pub program_conditions : Program → Program → Program → List Condition
 program_conditions first second transformer =
-    record { refusal = refusal_at no_first_form New; Holds = number_name first ≡ number_name second }
-    ∷ record { refusal = refusal_at no_first_form Xform; Holds = AssignsOnly (number_name first) transformer }
+    or_refused (refusal_at no_first_form New) (number_name first ≡ number_name second)
+    ∷ or_refused (refusal_at no_first_form Xform) (AssignsOnly (number_name first) transformer)
     ∷ []
 
 -- The numbers of both versions have one name.

@@ -1,15 +1,18 @@
--- What `merge` and `run` owe where files and sink tell their bytes, as those in memory do. For the operating
+-- What `merge`, `run` and `replay` owe where files and sink tell their bytes, as those in memory do. For the operating
 -- system's files and standard output that is trusted.
 use Rattle.std.specs.Prelude.{◌≡◌, ◌++◌, Option, Some, ◌⊎◌}
 use Rattle.outside.specs.Counts.{Rose}
 use Rattle.c_lang.specs.declared.unit.Unit.TheVariants as unit
 use Rattle.c_lang.specs.declared.program.Program.{Program}
-use Rattle.top_call.specs.Words.{Text, UpdateFiles, RunRequest, Request, Merge, Run}
-use Rattle.top_call.specs.Conditions.{AllHold}
-use Rattle.top_call.specs.Merge.{Texts, conditions}
+use Rattle.top_call.specs.Words.{Text, UpdateFiles, RunRequest, ReplayRequest, Request, Merge, Run, Replay}
+use Rattle.front_end.specs.Conditions.{AllHold}
+use Rattle.front_end.specs.Worlds as worlds
+use Rattle.front_end.specs.Worlds.{Texts}
+use Rattle.top_call.specs.Merge.{conditions}
 use Rattle.top_call.specs.MergedText.{IsMergedText}
-use Rattle.top_call.specs.TypedText.{IsTypedText}
+use Rattle.front_end.specs.TypedText.{IsTypedText}
 use Rattle.top_call.specs.Run.{IsRunOf, GoesTooDeep}
+use Rattle.top_call.specs.Replay.{IsReplayOf, ReplaysTooDeep}
 use Rattle.top_call.specs.Around.{Around}
 use Rattle.top_call.specs.declared.status.Status.{Status}
 use Rattle.top_call.specs.declared.status.Status.TheVariants.{Done, NoMemory, Deep}
@@ -52,3 +55,18 @@ RunsWhatIsAccepted around request status =
     (run : RunRequest) (text : Text) (program : Program)
     → request ≡ Some (Run run) → around.held run.file ≡ Some text → IsTypedText unit.Merge text program → HadNoFault around
     → (status ≡ Done) ⊎ ((status ≡ NoMemory) ⊎ ((status ≡ Deep) × GoesTooDeep run text))
+
+-- With `Done` the sink gained the lines of the updating run of what the files hold.
+abbrev pub WritesUpdatedEvents : Around → Option Request → Status → Type 0
+WritesUpdatedEvents around request status =
+    (replay : ReplayRequest) (ts : Texts) (written : Text)
+    → request ≡ Some (Replay replay) → Hold around replay.files ts → around.written_before ≡ Some written → status ≡ Done
+    → (lines : Text) × (around.written_after ≡ Some (written ++ lines)) × IsReplayOf replay ts lines
+
+-- Texts that meet all conditions of a world are replayed, unless there was a fault, memory was wanted, or the
+-- run goes too deep.
+abbrev pub ReplaysWhatIsAccepted : Around → Option Request → Status → Type 0
+ReplaysWhatIsAccepted around request status =
+    (replay : ReplayRequest) (ts : Texts)
+    → request ≡ Some (Replay replay) → Hold around replay.files ts → AllHold (worlds.conditions replay.points ts) → HadNoFault around
+    → (status ≡ Done) ⊎ ((status ≡ NoMemory) ⊎ ((status ≡ Deep) × ReplaysTooDeep replay ts))

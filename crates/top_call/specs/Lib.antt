@@ -2,12 +2,12 @@ pub mod Numbers
 pub mod Words
 pub mod Replies
 pub mod Held
-pub mod Conditions
 pub mod FirstForm
 pub mod MergedText
 pub mod Merge
-pub mod TypedText
+pub mod Shown
 pub mod Run
+pub mod Replay
 pub mod Stops
 pub mod Around
 pub mod Outcome

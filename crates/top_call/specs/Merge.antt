@@ -1,21 +1,16 @@
 -- The command `merge`: what it reads, what it refuses, and what it writes.
-use Rattle.std.specs.Prelude.{◌≡◌, ◌≤◌, List, [], ◌∷◌, ◌++◌, Option, length, ◌⊎◌}
-use Rattle.c_lang.specs.Limits.{size_limit}
-use Rattle.c_lang.specs.Refusals.{no_first_form, past_limit}
+use Rattle.std.specs.Prelude.{◌≡◌, List, [], ◌∷◌, ◌++◌, Option, ◌⊎◌}
+use Rattle.c_lang.specs.Refusals.{no_first_form}
 use Rattle.c_lang.specs.declared.unit.Unit.{Unit}
 use Rattle.c_lang.specs.declared.unit.Unit.TheVariants.{Old, New, Xform}
 use Rattle.c_lang.specs.declared.refusal.Refusal.{Refusal}
 use Rattle.top_call.specs.Words.{Text, UpdateFiles}
 use Rattle.top_call.specs.Replies.{Reply, done, refused}
 use Rattle.top_call.specs.Held.{IsHeld}
-use Rattle.top_call.specs.Conditions.{Condition, refusal_at, AllHold, IsFirstRefusal}
+use Rattle.front_end.specs.Conditions.{Condition, refusal_at, or_refused, AllHold, IsFirstRefusal}
+use Rattle.front_end.specs.Worlds.{Texts, size_conditions}
 use Rattle.top_call.specs.FirstForm.{HasForm, ShareNumber, AssignsNumber}
 use Rattle.top_call.specs.MergedText.{IsMergedText}
-
-pub record Texts : Type 0 where
-  pub old : Text
-  pub new : Text
-  pub xform : Text
 
 -- the names of the files, in the order in which they are read
 abbrev pub names_of : UpdateFiles → List Text
@@ -26,25 +21,18 @@ pub record AreHeld (held : Text → Option Text) (update : UpdateFiles) (texts :
   pub new : IsHeld held New update.new texts.new
   pub xform : IsHeld held Xform update.xform texts.xform
 
--- the text is within the unit's limit
-abbrev pub within_limit : Unit → Text → Condition
-within_limit unit text = record { refusal = refusal_at past_limit unit; Holds = length text ≤ size_limit unit }
-
 -- the text has the first form
 abbrev pub has_form : Unit → Text → Condition
-has_form unit text = record { refusal = refusal_at no_first_form unit; Holds = HasForm unit text }
+has_form unit text = or_refused (refusal_at no_first_form unit) (HasForm unit text)
 
--- what the texts must meet by their sizes, by their forms, and by the names in them
-abbrev pub size_conditions : Texts → List Condition
-size_conditions texts = within_limit Old texts.old ∷ within_limit New texts.new ∷ within_limit Xform texts.xform ∷ []
-
+-- what the texts must meet by their forms, and by the names in them
 abbrev pub form_conditions : Texts → List Condition
 form_conditions texts = has_form Old texts.old ∷ has_form New texts.new ∷ has_form Xform texts.xform ∷ []
 
 abbrev pub name_conditions : Texts → List Condition
 name_conditions texts =
-    record { refusal = refusal_at no_first_form New; Holds = ShareNumber texts.old texts.new }
-    ∷ record { refusal = refusal_at no_first_form Xform; Holds = AssignsNumber texts.old texts.xform }
+    or_refused (refusal_at no_first_form New) (ShareNumber texts.old texts.new)
+    ∷ or_refused (refusal_at no_first_form Xform) (AssignsNumber texts.old texts.xform)
     ∷ []
 
 abbrev pub conditions : Texts → List Condition

@@ -1,5 +1,5 @@
 -- Numbers and lists of numbers in words.
-use Rattle.std.specs.Prelude.{ℕ, nat_le, ℤ, pos, negsuc, ◌&&◌, ◌==◌, if◌then◌else◌, List, [], ◌∷◌, length, Option, Some, None, bytes_eq, codes}
+use Rattle.std.specs.Prelude.{ℕ, nat_le, ℤ, pos, negsuc, ◌&&◌, ◌==◌, if◌then◌else◌, List, [], ◌∷◌, length, Option, Some, None, bytes_eq, option_map, codes}
 use Rattle.std.specs.List.{slice_split}
 use Rattle.std.specs.Fmt.{signed_decimal}
 use Rattle.std.specs.Str.Parse.{signed_digits_value}
@@ -44,6 +44,20 @@ if_few (Some zs) = if nat_le (length zs) answer_limit then Some zs else None
 -- `none`, or numbers with a comma between each two
 abbrev pub answers_of : Bytes → Option (List ℤ)
 answers_of text = if bytes_eq text (codes "none") then Some [] else if_few (all_numbers (pieces text))
+
+-- none of them below 0
+abbrev pub naturals : List ℤ → Option (List ℕ)
+naturals [] = Some []
+naturals (pos n ∷ zs) = option_map (λ ns. n ∷ ns) (naturals zs)
+naturals (negsuc n ∷ zs) = None
+
+abbrev pub if_naturals : Option (List ℤ) → Option (List ℕ)
+if_naturals None = None
+if_naturals (Some zs) = naturals zs
+
+-- `none`, or the numbers of points with a comma between each two
+abbrev pub points_of : Bytes → Option (List ℕ)
+points_of text = if bytes_eq text (codes "none") then Some [] else if_naturals (all_numbers (pieces text))
 
 -- 1 to 10,000,000
 abbrev pub if_steps : Option ℤ → Option ℕ

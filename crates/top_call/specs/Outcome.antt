@@ -1,11 +1,12 @@
 -- What a call of the tool answers and puts, by the status.
 use Rattle.std.specs.Prelude.{⊤, ◌≡◌, List, [], ◌∷◌, Option, None, Some, IsNone, IsSomeAnd, Contains}
 use Rattle.outside.specs.Counts.{Rose}
-use Rattle.top_call.specs.Words.{Text, Request, Merge, Run}
+use Rattle.top_call.specs.Words.{Text, Request, Merge, Run, Replay}
 use Rattle.top_call.specs.Replies.{Reply, usage_line}
 use Rattle.top_call.specs.Around.{Around, Put, PutInPart, PutNothing}
 use Rattle.top_call.specs.Merge.{names_of, MergeAllows}
 use Rattle.top_call.specs.Run.{RunAllows, RunGoesDeep}
+use Rattle.top_call.specs.Replay.{ReplayAllows, ReplayGoesDeep}
 use Rattle.top_call.specs.declared.status.Status.{Status}
 use Rattle.top_call.specs.declared.status.Status.TheVariants.{Done, NotProved, Refused, Usage, ReadFailed, WriteFailed, NoMemory, Deep}
 
@@ -13,15 +14,18 @@ use Rattle.top_call.specs.declared.status.Status.TheVariants.{Done, NotProved, R
 abbrev pub files_of : Request → List Text
 files_of (Merge update) = names_of update
 files_of (Run run) = run.file ∷ []
+files_of (Replay replay) = names_of replay.files
 
 abbrev pub Allows : (Text → Option Text) → Request → Reply → Type 0
 Allows held (Merge update) reply = MergeAllows held update reply
 Allows held (Run run) reply = RunAllows held run reply
+Allows held (Replay replay) reply = ReplayAllows held replay reply
 
 -- The command asks for one frame more than a run may have.
 abbrev pub GoesDeep : (Text → Option Text) → Request → Type 0
 GoesDeep held (Merge update) = ⊥
 GoesDeep held (Run run) = RunGoesDeep held run
+GoesDeep held (Replay replay) = ReplayGoesDeep held replay
 
 -- what may be put where the words ask for this: the usage line, or a reply
 abbrev pub MayPut : (Text → Option Text) → Option Request → Text → Type 0

@@ -1,32 +1,16 @@
 -- The command `run`: what it reads, what it refuses, and what it puts.
-use Rattle.std.specs.Prelude.{◌≡◌, List, [], ◌++◌, ◌⊎◌, Option, codes}
-use Rattle.std.specs.List.{flat_map}
-use Rattle.c_lang.specs.Events.{event_text}
-use Rattle.c_lang.specs.declared.event.Event.{Event}
+use Rattle.std.specs.Prelude.{◌≡◌, ◌⊎◌, Option}
 use Rattle.c_lang.specs.declared.unit.Unit.TheVariants.{Merge}
 use Rattle.c_lang.specs.declared.refusal.Refusal.{Refusal}
 use Rattle.c_lang.specs.declared.program.Program.{Program}
 use Rattle.plain_run.specs.PlainRun.{events}
 use Rattle.run_replay.specs.declared.replay.Close.{Close}
-use Rattle.run_replay.specs.declared.replay.Close.TheVariants.{Ended, Faulted, Waiting, Running}
 use Rattle.run_replay.specs.Replays.{IsPlainClose, StaysShallow, GetsDeep}
 use Rattle.top_call.specs.Words.{Text, RunRequest}
 use Rattle.top_call.specs.Replies.{Reply, done, refused}
 use Rattle.top_call.specs.Held.{IsHeld}
-use Rattle.top_call.specs.TypedText.{HasProgram, IsRefused}
-
-abbrev pub event_line : Event → Text
-event_line event = event_text event ++ codes "\n"
-
--- a line where the run waits or would go on
-abbrev pub close_line : Close → Text
-close_line Ended = []
-close_line Faulted = []
-close_line Waiting = codes "waiting\n"
-close_line Running = codes "running\n"
-
-abbrev pub run_lines : List Event → Close → Text
-run_lines shown close = flat_map event_line shown ++ close_line close
+use Rattle.top_call.specs.Shown.{run_lines}
+use Rattle.front_end.specs.TypedText.{HasProgram, IsRefused}
 
 -- The text is a typed program. The lines are those of the events of its run, and of how that stands then;
 -- no step made one frame more than 10,000.

@@ -2,7 +2,7 @@
 use Rattle.std.specs.Prelude.{ℕ, ℤ, Bool, not, ◌||◌, if◌then◌else◌, List, [], ◌∷◌, ◌++◌, Option, Some, None, nat_eq, bytes_eq, option_map, codes}
 use Rattle.std.specs.List.{list_any, list_all, starts_with}
 use Rattle.c_lang.specs.Names.{behind}
-use Rattle.top_call.specs.Numbers.{answers_of, default_steps, steps_of}
+use Rattle.top_call.specs.Numbers.{answers_of, points_of, default_steps, steps_of}
 
 abbrev pub Text : Type 0
 Text = List ℕ
@@ -19,9 +19,18 @@ pub record RunRequest : Type 0 where
   pub answers : List ℤ
   pub steps : ℕ
 
+-- the files of an update, the points that may update where they are listed, the answers that its run gets,
+-- and how many steps it makes
+pub record ReplayRequest : Type 0 where
+  pub files : UpdateFiles
+  pub points : Option (List ℕ)
+  pub answers : List ℤ
+  pub steps : ℕ
+
 pub data Request : Type 0 where
   Merge : UpdateFiles → Request
   Run : RunRequest → Request
+  Replay : ReplayRequest → Request
 
 -- a word that begins with `-`
 abbrev pub is_option : Text → Bool
@@ -38,7 +47,7 @@ update_files_of words = if list_any is_option words then None else three_files w
 abbrev pub merge_of : List Text → Option Request
 merge_of words = option_map Merge (update_files_of words)
 
--- ---- the words of `run`
+-- ---- the words of `run` and of `replay`
 
 abbrev pub with_chosen : Option Text → List Text → List Text
 with_chosen None texts = texts
@@ -64,8 +73,14 @@ answers_name = codes "--answers="
 abbrev pub steps_name : Text
 steps_name = codes "--steps="
 
+abbrev pub points_name : Text
+points_name = codes "--points="
+
 abbrev pub is_run_word : Text → Bool
 is_run_word word = not (is_option word) || (starts_with nat_eq word answers_name || starts_with nat_eq word steps_name)
+
+abbrev pub is_replay_word : Text → Bool
+is_replay_word word = is_run_word word || starts_with nat_eq word points_name
 
 -- an option's value, or what stands where it isn't given; none where it is given twice
 abbrev pub option_value : {X : Type 0} → (Text → Option X) → X → List Text → Option X
@@ -73,17 +88,39 @@ option_value read default [] = Some default
 option_value read default (text ∷ []) = read text
 option_value read default (text ∷ other ∷ texts) = None
 
-abbrev pub run_with : List Text → Option (List ℤ) → Option ℕ → Option RunRequest
-run_with (file ∷ []) (Some answers) (Some steps) = Some (record { file = file; answers = answers; steps = steps })
-run_with files answers steps = None
+abbrev pub one_file : List Text → Option Text
+one_file (file ∷ []) = Some file
+one_file files = None
+
+abbrev pub run_with : Option Text → Option (List ℤ) → Option ℕ → Option RunRequest
+run_with (Some file) (Some answers) (Some steps) = Some (record { file = file; answers = answers; steps = steps })
+run_with file answers steps = None
 
 -- one file, and each option at most once, in any order
 abbrev pub run_of : List Text → Option RunRequest
 run_of words =
     if list_all is_run_word words
     then
-    run_with (chosen file_in words) (option_value answers_of [] (chosen (behind answers_name) words))
+    run_with (one_file (chosen file_in words)) (option_value answers_of [] (chosen (behind answers_name) words))
     (option_value steps_of default_steps (chosen (behind steps_name) words))
+    else None
+
+-- the points that a value lists
+abbrev pub listed : Text → Option (Option (List ℕ))
+listed text = option_map Some (points_of text)
+
+abbrev pub replay_with : Option UpdateFiles → Option (Option (List ℕ)) → Option (List ℤ) → Option ℕ → Option ReplayRequest
+replay_with (Some files) (Some points) (Some answers) (Some steps) =
+    Some (record { files = files; points = points; answers = answers; steps = steps })
+replay_with files points answers steps = None
+
+-- three files, and each option at most once, in any order
+abbrev pub replay_of : List Text → Option ReplayRequest
+replay_of words =
+    if list_all is_replay_word words
+    then
+    replay_with (three_files (chosen file_in words)) (option_value listed None (chosen (behind points_name) words))
+    (option_value answers_of [] (chosen (behind answers_name) words)) (option_value steps_of default_steps (chosen (behind steps_name) words))
     else None
 
 -- the command, and its files and options
@@ -92,4 +129,5 @@ request_of [] = None
 request_of (command ∷ words) =
     if bytes_eq command (codes "merge") then merge_of words
     else if bytes_eq command (codes "run") then option_map Run (run_of words)
+    else if bytes_eq command (codes "replay") then option_map Replay (replay_of words)
     else None

@@ -3,10 +3,11 @@ ghost use Rattle.top_call.specs.Words.{request_of};
 ghost use Rattle.top_call.specs.Seen.{seen, seen_reply};
 ghost use Rattle.top_call.specs.Held.{HasReadCause};
 ghost use Rattle.top_call.specs.Around.{Puts, around};
-ghost use Rattle.top_call.specs.Headline.{MergesWhatIsAccepted, RunsWhatIsAccepted, WritesEvents, WritesMergedText};
+ghost use Rattle.top_call.specs.Headline.{MergesWhatIsAccepted, ReplaysWhatIsAccepted, RunsWhatIsAccepted, WritesEvents, WritesMergedText, WritesUpdatedEvents};
 ghost use Rattle.top_call.specs.Outcome.{Outcome, Allows, GoesDeep, files_of, PutsNothing};
 
 use crate::merge::merge_reply;
+use crate::replay::replay_reply;
 use crate::reply::Reply;
 use crate::run::run_reply;
 use crate::status::Status;
@@ -41,6 +42,10 @@ pub fn dsu<F: Files, S: Sink>(alloc: Global, words: &[String], files: &mut F, ou
     ensures shows { WritesEvents (around F.held F.faults F.failed S.written S.faults files.old files.new out.old out.new)
         (request_of (map string_bytes words.now)) result }
     ensures runs { RunsWhatIsAccepted (around F.held F.faults F.failed S.written S.faults files.old files.new out.old out.new)
+        (request_of (map string_bytes words.now)) result }
+    ensures replays { WritesUpdatedEvents (around F.held F.faults F.failed S.written S.faults files.old files.new out.old out.new)
+        (request_of (map string_bytes words.now)) result }
+    ensures accepts { ReplaysWhatIsAccepted (around F.held F.faults F.failed S.written S.faults files.old files.new out.old out.new)
         (request_of (map string_bytes words.now)) result }
 {
     answer_words(alloc, words, files, out)
@@ -92,6 +97,7 @@ fn reply_to<F: Files>(alloc: Global, request: &Request<'_>, files: &mut F) -> Re
     match request {
         Request::Merge(update) => merge_reply(alloc, update, files),
         Request::Run(run) => run_reply(alloc, run, files),
+        Request::Replay(replay) => replay_reply(alloc, replay, files),
     }
 }
 

@@ -1,18 +1,23 @@
 //! The call of the tool `dsu`: it merges two versions of a program and a transformer into one program, which
-//! runs as the old version does until it is updated, and shows the run of a merged program.
+//! runs as the old version does until it is updated, shows the run of a merged program, and shows the updated
+//! run itself.
 #![tactic(auto)]
 
 mod call;
 mod merge;
 mod names;
 mod numbers;
+mod option_words;
 mod reading;
+mod replay;
+mod replay_words;
 mod reply;
 mod run;
 mod run_words;
+mod shown;
 mod status;
 mod stop;
-mod typed_text;
+mod texts;
 mod words;
 
 pub use call::dsu;

@@ -1,33 +1,26 @@
 //! The command `merge`.
 
-ghost use Rattle.std.specs.Prelude.{◌≡◌, ◌≤◌, ℕ, List, IfOk, IsErrOf, MatchResult};
-ghost use Rattle.top_call.specs.Conditions.{Checks, IsRefusedBy};
+ghost use Rattle.std.specs.Prelude.{◌≡◌, IfOk, IsErrOf, MatchResult};
+ghost use Rattle.front_end.specs.Conditions.{IsRefusedBy};
 ghost use Rattle.top_call.specs.Held.{HasReadCause};
-ghost use Rattle.top_call.specs.Merge.{AreHeld, MergeAllows, names_of, Merges, IsMergeOfTexts, conditions, size_conditions, form_conditions};
+ghost use Rattle.top_call.specs.Merge.{MergeAllows, names_of, Merges, IsMergeOfTexts, conditions, form_conditions};
 ghost use Rattle.top_call.specs.MergedText.{IsTextOfMerge};
 ghost use Rattle.top_call.specs.Seen.{seen_update_files, seen_reply, seen_texts};
 ghost use Rattle.top_call.specs.SeenPrograms.{HaveLines};
 ghost use Rattle.merge_core.specs.FirstMerge.{AreFirst};
 
-use crate::names::{check_names, refusal_at};
-use crate::reading::read_text;
+use crate::names::check_names;
 use crate::reply::{Reply, refuse};
 use crate::status::Status;
 use crate::stop::Stop;
+use crate::texts::{Texts, read_texts};
 use crate::words::UpdateFiles;
-use c_lang::{Fail, Program, Refusal, Unit, limit_of, refusal};
+use c_lang::{Fail, Program, Unit};
 use c_lines::parse_lines;
+use front_end::check_sizes;
 use merge_core::{merge_first, print_first};
 use outside::Files;
 use std::alloc::{AllocError, Global};
-
-/// The texts that the command works on.
-#[derive(Drop)]
-pub(crate) struct Texts {
-    old: Vec<u8>,
-    new: Vec<u8>,
-    xform: Vec<u8>,
-}
 
 /// The programs of the three texts.
 #[derive(Drop)]
@@ -35,23 +28,6 @@ struct Programs {
     first: Program,
     second: Program,
     xform: Program,
-}
-
-#[tactic(auto, using(crate::proofs::ReadLemmas::third))]
-fn read_texts<F: Files>(
-    alloc: Global,
-    update: &UpdateFiles<'_>,
-    files: &mut F,
-) -> Result<Texts, Stop>
-    ensures texts { IfOk result (λ texts. AreHeld (F.held files.old) (seen_update_files update.now) (seen_texts texts)) }
-    ensures shallow { IsErrOf result Stop.Deep → ⊥ }
-    ensures cause { HasReadCause (names_of (seen_update_files update.now))
-        (F.faults files.old) (F.faults files.new) (F.failed files.new) result }
-{
-    let old = read_text(alloc, Unit::Old, update.old, files)?;
-    let new = read_text(alloc, Unit::New, update.new, files)?;
-    let xform = read_text(alloc, Unit::Xform, update.xform, files)?;
-    Ok(Texts { old, new, xform })
 }
 
 /// The reply of `merge` to the texts of the named files.
@@ -87,7 +63,7 @@ fn merge_texts(alloc: Global, texts: &Texts) -> Result<Vec<u8>, Fail>
     ensures { MatchResult result (λ text. IsMergeOfTexts (seen_texts texts.now) text.items)
         (IsRefusedBy (conditions (seen_texts texts.now))) }
 {
-    if let Err(refusal) = check_sizes(texts) {
+    if let Err(refusal) = check_sizes(&texts.old, &texts.new, &texts.xform) {
         return Err(Fail::Refused(refusal));
     }
     let programs = parse_texts(alloc, texts)?;
@@ -95,21 +71,6 @@ fn merge_texts(alloc: Global, texts: &Texts) -> Result<Vec<u8>, Fail>
         return Err(Fail::Refused(refusal));
     }
     Ok(write_merge(alloc, &programs)?)
-}
-
-fn check_sizes(texts: &Texts) -> Result<(), Refusal>
-    ensures { Checks (size_conditions (seen_texts texts.now)) result }
-{
-    if texts.old.len() > limit_of(Unit::Old) {
-        return Err(refusal_at(refusal::PAST_LIMIT, Unit::Old));
-    }
-    if texts.new.len() > limit_of(Unit::New) {
-        return Err(refusal_at(refusal::PAST_LIMIT, Unit::New));
-    }
-    if texts.xform.len() > limit_of(Unit::Xform) {
-        return Err(refusal_at(refusal::PAST_LIMIT, Unit::Xform));
-    }
-    Ok(())
 }
 
 fn parse_texts(alloc: Global, texts: &Texts) -> Result<Programs, Fail>

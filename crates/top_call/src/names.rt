@@ -1,7 +1,7 @@
 //! The one number that sources of the first form share.
 
 ghost use Rattle.std.specs.Prelude.{◌≡◌, ◌↔◌, IsTrue, All, option_map};
-ghost use Rattle.top_call.specs.Conditions.{Checks, refusal_at as refusal_of};
+ghost use Rattle.front_end.specs.Conditions.{Checks, refusal_at as refusal_of};
 ghost use Rattle.top_call.specs.FirstForm.{number_name, Assigns, AssignsOnly, program_conditions};
 
 use c_lang::{Dest, Func, Name, Pos, Program, Refusal, Stmt, Unit, refusal};
@@ -20,8 +20,8 @@ pub(crate) fn check_names(first: &Program, second: &Program, xform: &Program) ->
     Ok(())
 }
 
-/// A refusal at the first line of a unit.
-pub(crate) fn refusal_at(number: u8, unit: Unit) -> Refusal
+// A refusal at the first line of a unit.
+fn refusal_at(number: u8, unit: Unit) -> Refusal
     ensures { result ≡ refusal_of number unit }
 {
     Refusal::at(number, Pos { unit, line: 1 })

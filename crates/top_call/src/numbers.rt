@@ -2,7 +2,7 @@
 
 ghost use Rattle.std.specs.Prelude.{◌≡◌, IfOk, option_map};
 ghost use Rattle.top_call.specs.Numbers as spec;
-ghost use Rattle.top_call.specs.Seen.{seen_numbers};
+ghost use Rattle.top_call.specs.Seen.{seen_naturals, seen_numbers};
 
 use itoa::Buffer;
 use std::alloc::{AllocError, Global};
@@ -60,6 +60,34 @@ pub(crate) fn answers_of(alloc: Global, text: &str) -> Result<Option<Vec<i32>>, 
     match numbers_of(alloc, text)? {
         Some(numbers) if numbers.len() <= ANSWER_LIMIT => Ok(Some(numbers)),
         _ => Ok(None),
+    }
+}
+
+// The numbers, where none is below 0.
+fn naturals(alloc: Global, numbers: &[i32]) -> Result<Option<Vec<u32>>, AllocError>
+    ensures { IfOk result (λ list. option_map seen_naturals list ≡ spec.naturals numbers.now) }
+{
+    let mut naturals = Vec::new(alloc);
+    for number in numbers {
+        if *number < 0 {
+            return Ok(None);
+        }
+        naturals.push(*number as u32)?;
+    }
+    Ok(Some(naturals))
+}
+
+/// The numbers of points that the text lists: `none`, or numbers that aren't below 0, with a comma between
+/// each two. Any other text is no list. The only error is want of memory.
+pub(crate) fn points_of(alloc: Global, text: &str) -> Result<Option<Vec<u32>>, AllocError>
+    ensures { IfOk result (λ list. option_map seen_naturals list ≡ spec.points_of text.now) }
+{
+    if text == "none" {
+        return Ok(Some(Vec::new(alloc)));
+    }
+    match numbers_of(alloc, text)? {
+        Some(numbers) => naturals(alloc, &numbers),
+        None => Ok(None),
     }
 }
 

@@ -1,26 +1,26 @@
 //! The command `run`.
 
-ghost use Rattle.std.specs.Prelude.{◌≡◌, ◌++◌, [], ◌∷◌, IfOk, IsErrOf};
+ghost use Rattle.std.specs.Prelude.{◌≡◌, [], ◌∷◌, IfOk, IsErrOf};
 ghost use Rattle.c_lang.specs.declared.unit.Unit.TheVariants.{Merge};
 ghost use Rattle.top_call.specs.Held.{HasReadCause};
 ghost use Rattle.top_call.specs.Words.{Text};
-ghost use Rattle.top_call.specs.Run.{GoesTooDeep, RunAllows, RunGoesDeep, Runs, close_line, run_lines};
-ghost use Rattle.top_call.specs.TypedText.{HasProgram};
+ghost use Rattle.top_call.specs.Run.{GoesTooDeep, RunAllows, RunGoesDeep, Runs};
+ghost use Rattle.front_end.specs.TypedText.{HasProgram};
 ghost use Rattle.top_call.specs.Seen.{seen_reply, seen_run};
 
 use crate::reading::read_text;
 use crate::reply::{Reply, refuse};
 use crate::run_words::RunRequest;
+use crate::shown::replay_text;
 use crate::status::Status;
 use crate::stop::Stop;
-use crate::typed_text::typed_text;
 use c_lang::{Fail, Unit};
 use c_types::Typed;
+use front_end::typed_text;
 use outside::Files;
 use plain_run::RunError;
-use run_replay::{Close, Replay, replay_plain};
-use std::alloc::{AllocError, Global};
-use std::fmt::Write;
+use run_replay::replay_plain;
+use std::alloc::Global;
 
 /// The reply of `run` to the text of the named file. Beside a failed read and want of memory the
 /// error is `Stop::Deep`, exactly where a step makes one frame more than 10,000.
@@ -60,26 +60,4 @@ fn reply_of_run(alloc: Global, run: &RunRequest<'_>, typed: &Typed) -> Result<Re
         status: Status::Done,
         text: replay_text(alloc, &replay)?,
     })
-}
-
-fn close_text(close: Close) -> &'static str
-    ensures { result.now ≡ close_line close }
-{
-    match close {
-        Close::Ended | Close::Faulted => "",
-        Close::Waiting => "waiting\n",
-        Close::Running => "running\n",
-    }
-}
-
-// A line for each event, and one for a run that waits or would go on.
-fn replay_text(alloc: Global, replay: &Replay) -> Result<Vec<u8>, AllocError>
-    ensures { IfOk result (λ text. text.items ≡ run_lines replay.now.events.items replay.now.close) }
-{
-    let mut text = String::new(alloc);
-    for event in &replay.events {
-        writeln!(text, "{event}")?;
-    }
-    text.push_str(close_text(replay.close))?;
-    Ok(text.into_bytes())
 }

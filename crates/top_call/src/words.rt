@@ -5,6 +5,7 @@ ghost use Rattle.std.specs.List.{list_any};
 ghost use Rattle.top_call.specs.Words as spec;
 ghost use Rattle.top_call.specs.Seen.{seen, seen_update_files};
 
+use crate::replay_words::{ReplayRequest, read_replay};
 use crate::run_words::{RunRequest, read_run};
 use std::alloc::{AllocError, Global};
 
@@ -23,6 +24,8 @@ pub(crate) enum Request<'a> {
     Merge(UpdateFiles<'a>),
     /// The events of a merged text's run.
     Run(RunRequest<'a>),
+    /// The events of an updating run.
+    Replay(ReplayRequest<'a>),
 }
 
 /// The request of the words, or `None` where they ask for nothing. The only error is want of
@@ -39,6 +42,7 @@ pub(crate) fn read_request<'a>(
     match command.as_str() {
         "merge" => Ok(read_merge(rest)),
         "run" => run_request(alloc, rest),
+        "replay" => replay_request(alloc, rest),
         _ => Ok(None),
     }
 }
@@ -48,6 +52,18 @@ fn run_request<'a>(alloc: Global, words: &'a [String]) -> Result<Option<Request<
 {
     match read_run(alloc, words)? {
         Some(run) => Ok(Some(Request::Run(run))),
+        None => Ok(None),
+    }
+}
+
+fn replay_request<'a>(
+    alloc: Global,
+    words: &'a [String],
+) -> Result<Option<Request<'a>>, AllocError>
+    ensures { IfOk result (λ request. option_map seen request ≡ option_map spec.Replay (spec.replay_of (map string_bytes words.entry.now))) }
+{
+    match read_replay(alloc, words)? {
+        Some(replay) => Ok(Some(Request::Replay(replay))),
         None => Ok(None),
     }
 }

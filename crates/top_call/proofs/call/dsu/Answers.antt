@@ -1,5 +1,6 @@
 use Rattle.top_call.proofs.HeadlineLemmas.{writes-merged-text, merges-what-is-accepted}
 use Rattle.top_call.proofs.RunHeadlineLemmas.{writes-events, runs-what-is-accepted}
+use Rattle.top_call.proofs.ReplayHeadlineLemmas.{writes-updated-events, replays-what-is-accepted}
 use Rattle.top_call.proofs.call.dsu.Goals as goal
 
 pub returns-clause-writes : goal.returns-clause-writes
@@ -13,3 +14,9 @@ returns-clause-shows g c = writes-events _ _ _ c.answer_words.ensures.outcome
 
 pub returns-clause-runs : goal.returns-clause-runs
 returns-clause-runs g c = runs-what-is-accepted _ _ _ c.answer_words.ensures.outcome
+
+pub returns-clause-replays : goal.returns-clause-replays
+returns-clause-replays g c = writes-updated-events _ _ _ c.answer_words.ensures.outcome
+
+pub returns-clause-accepts : goal.returns-clause-accepts
+returns-clause-accepts g c = replays-what-is-accepted _ _ _ c.answer_words.ensures.outcome

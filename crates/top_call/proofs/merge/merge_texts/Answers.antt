@@ -1,7 +1,8 @@
 use Rattle.std.proofs.Common.{◌++◌}
 use Rattle.top_call.specs.Seen.{seen_texts}
-use Rattle.top_call.specs.Merge.{size_conditions, form_conditions, name_conditions}
-use Rattle.top_call.proofs.ConditionLemmas.{all-append, refused-behind}
+use Rattle.front_end.specs.Worlds.{size_conditions}
+use Rattle.top_call.specs.Merge.{form_conditions, name_conditions}
+use Rattle.front_end.proofs.ConditionLemmas.{all-append, refused-behind}
 use Rattle.top_call.proofs.NameLemmas.{names-hold, names-refused}
 use Rattle.top_call.proofs.FirstFormLemmas.{are-first}
 use Rattle.c_lines.proofs.Programs.{one as one-program}

@@ -2,7 +2,7 @@ use Rattle.std.proofs.Common.{◌∙◌, ap, subst, inr, refl, List, ℤ}
 use Rattle.c_lang.specs.declared.event.Event.{Event}
 use Rattle.plain_run.specs.PlainRun.{events}
 use Rattle.run_replay.specs.Replays.{IsPlainClose, StaysShallow}
-use Rattle.top_call.specs.Run.{run_lines}
+use Rattle.top_call.specs.Shown.{run_lines}
 use Rattle.top_call.proofs.run.reply_of_run.Goals as goal
 
 pub returns-clause-reply : goal.returns-clause-reply

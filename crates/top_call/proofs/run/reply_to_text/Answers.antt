@@ -1,6 +1,6 @@
 use Rattle.std.proofs.Common.{inl}
 use Rattle.c_lang.specs.declared.unit.Unit.TheVariants.{Merge}
-use Rattle.top_call.proofs.TypedTextLemmas.{has-program, is-refused}
+use Rattle.front_end.proofs.TypedTextLemmas.{has-program, is-refused}
 use Rattle.top_call.proofs.run.reply_to_text.Goals as goal
 
 pub returns-in-Ok-clause-reply : goal.returns-in-Ok-clause-reply

@@ -1,0 +1,3 @@
+pub mod ConditionLemmas
+pub mod TypedTextLemmas
+pub mod WorldLemmas

@@ -1,0 +1,4 @@
+pub mod Conditions
+pub mod TypedText
+pub mod Worlds
+pub mod Code

@@ -1,0 +1,3 @@
+pub mod UpdatingRun
+pub mod Worlds
+pub mod Code

@@ -1,0 +1,16 @@
+//! Runs of an old program that is updated once at most.
+#![tactic(auto)]
+
+mod cells;
+mod declared;
+mod environment;
+mod linked;
+mod meanings;
+mod state;
+mod value;
+mod world;
+
+pub use environment::UpdatedNames;
+pub use linked::{Function, Linked, Provenance};
+pub use value::Value;
+pub use world::World;
