@@ -4,3 +4,5 @@ pub mod ExpressionTurns
 pub mod ExpressionComplete
 pub mod ExpressionSound
 pub mod SeparatedLaws
+pub mod SideComplete
+pub mod SideSound

@@ -2,3 +2,4 @@
 pub mod ExpressionReading
 pub mod ParseSteps
 pub mod Seen
+pub mod SideReading

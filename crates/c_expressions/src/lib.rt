@@ -5,3 +5,5 @@
 pub mod expressions;
 pub mod front;
 pub mod parse_error;
+pub mod pointer;
+pub mod right;

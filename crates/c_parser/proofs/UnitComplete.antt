@@ -15,15 +15,16 @@ use Rattle.c_grammar.specs.Separated.{Separated, last, more, parts_of, separated
 use Rattle.c_expressions.specs.Code.ParseSteps.{◌>>=◌, after, after_key, name_at, separated}
 use Rattle.c_expressions.proofs.SeparatedLaws.{all_added, reads_all_parts, size_fits}
 use Rattle.c_grammar.specs.Statements as g
-use Rattle.c_statements.specs.Code.StatementReading.{Pointer, pointer_at, Read, made}
-use Rattle.c_statements.proofs.SideComplete.{pointer_again}
+use Rattle.c_expressions.specs.Code.SideReading.{Pointer, pointer_at}
+use Rattle.c_statements.specs.Code.StatementReading.{Read, made}
+use Rattle.c_expressions.proofs.SideComplete.{pointer_again}
 use Rattle.c_statements.proofs.BlockLaws.{is_read}
 use Rattle.c_grammar.specs.Units.{Parts}
 use Rattle.c_parser.specs.declared.params.Param.{Param}
 use Rattle.c_parser.specs.declared.params.Params.{Params}
 use Rattle.c_grammar.specs.Units.{ParamTree, nameless, ParamsTree, several, HeadTree, SignedTree, plain, negative, NumberInit, ArrayInit, PointerInit, External, prototype, param_tokens, params_tokens, param_list, param_kind, param_refusals, all_refusals, IsNamed, AreNamed, signed_tokens, signed_value, array_init_tokens, pointer_init_tokens, external_tokens, external_height, IsExternal, values_of, target_of, named_param, add, with_array, with_pointer, with_proto, function_start}
 use Rattle.c_grammar.specs.Units as u
-use Rattle.c_parser.specs.Code.UnitReading.{with_param, param, no_params, params_by, params_at, named_params, signed_at, value, ended, number_global, values_at, array_global, target_at, pointer_global, headed_by, headed, function_at, int_external, void_external, external}
+use Rattle.c_parser.specs.Code.UnitReading.{with_param, param, no_params, params_by, params_at, named_params, signed_at, value, ended, initial_at, number_global, values_at, array_global, target_at, pointer_global, headed_by, headed, function_at, int_external, void_external, external}
 
 -- ---- parameters
 
@@ -180,7 +181,7 @@ module _ (unit : Unit) (d : ℕ) where
 
   numbers_again : (int at : At) (x : Bytes) (i : NumberInit) (end : At) (a : Parts) (rest : List Token)
       → external unit d a (external_tokens (u.number int at x i end) ++ rest) ≡ Some (add a (u.number int at x i end), rest)
-  unfolding external int_external number_global signed_at
+  unfolding external int_external number_global initial_at signed_at
   numbers_again int at x u.nothing end a rest = refl
   numbers_again int at x (u.given is (plain n k)) end a rest = refl
   numbers_again int at x (u.given is (negative sign n k)) end a rest = refl

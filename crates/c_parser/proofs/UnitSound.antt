@@ -18,15 +18,16 @@ use Rattle.c_expressions.proofs.OperatorLaws.{chosen}
 use Rattle.c_expressions.proofs.SeparatedLaws.{IsPart, parts_read}
 use Rattle.c_grammar.specs.Scopes.{arity_refusals}
 use Rattle.c_grammar.specs.Statements as g
-use Rattle.c_statements.specs.Code.StatementReading.{Pointer, pointer_at, Read, nothing, items, stmt}
-use Rattle.c_statements.proofs.SideSound.{after_key-is, name_at-is, number_at-is, pointer-read}
+use Rattle.c_expressions.specs.Code.SideReading.{Pointer, pointer_at}
+use Rattle.c_statements.specs.Code.StatementReading.{Read, nothing, items, stmt}
+use Rattle.c_expressions.proofs.SideSound.{after_key-is, name_at-is, number_at-is, pointer-read}
 use Rattle.c_statements.proofs.BlockLaws.{is_block}
 use Rattle.c_grammar.specs.Units.{Parts}
 use Rattle.c_parser.specs.declared.params.Param.{Param}
 use Rattle.c_parser.specs.declared.params.Params.{Params}
 use Rattle.c_grammar.specs.Units.{ParamTree, nameless, ParamsTree, several, SignedTree, plain, negative, ArrayInit, PointerInit, External, prototype, param_tokens, params_tokens, param_list, named_param, all_refusals, IsNamed, AreNamed, signed_tokens, signed_value, array_init_tokens, pointer_init_tokens, external_tokens, external_height, IsExternal, with_number, with_array, with_pointer, with_proto, with_func, values_of, target_of, body_start, add}
 use Rattle.c_grammar.specs.Units as u
-use Rattle.c_parser.specs.Code.UnitReading.{with_param, param_by, param, no_params, params_by, params_at, named_params, signed_by, signed_at, value, ended, number_by, number_global, values_by, values_at, array_global, zero_at, target_by, start_by, target_at, pointer_global, headed_by, headed, function_at, named_by, int_by, int_external, void_external, external_by, external}
+use Rattle.c_parser.specs.Code.UnitReading.{with_param, param_by, param, no_params, params_by, params_at, named_params, signed_by, signed_at, value, ended, initial_by, initial_at, number_global, values_by, values_at, array_global, zero_at, target_by, start_by, target_at, pointer_global, headed_by, headed, function_at, named_by, int_by, int_external, void_external, external_by, external}
 use Rattle.c_parser.proofs.UnitComplete.{param_of, add_param, added_params, params_of, kinds_are, add_value, added_values}
 
 -- ---- parameters
@@ -217,12 +218,12 @@ module _ (unit : Unit) (d : ℕ) where
     pub parts : ts ≡ external_tokens tree ++ x.1
     pub same : add a tree ≡ x.0
 
-  number_by-read : (int at : At) (x : Bytes) (a : Parts) (ts : List Token) (y : Parts × List Token) (o : Option (List Token)) → after equals ts ≡ o → number_by a int.pos x ts o ≡ Some y
+  number-read : (int at : At) (x : Bytes) (a : Parts) (ts : List Token) (y : Parts × List Token) (o : Option (List Token)) → after equals ts ≡ o → (initial_by ts o >>= λ z. ended (with_number a int.pos x z.0) z.1) ≡ Some y
       → IsExternalRead a (keyword int_key int ∷ token at (w.Ident x) ∷ ts) y
-  number_by-read int at x a ts y None is q =
+  number-read int at x a ts y None is q =
       let e = ended-is (with_number a int.pos x (pos 0)) ts y q in
       record { tree = u.number int at x u.nothing e.0; valid = tt; high = omega arith; parts = ap (λ (us : List Token). keyword int_key int ∷ token at (w.Ident x) ∷ us) e.1; same = e.2 }
-  number_by-read int at x a ts y (Some given) is q =
+  number-read int at x a ts y (Some given) is q =
       let z = bind_some (signed_at given) (λ z. ended (with_number a int.pos x z.0) z.1) y q in
       let s = after-is equals ts given is in
       let r = signed-read given z.0 z.1 in
@@ -353,14 +354,14 @@ module _ (unit : Unit) (d : ℕ) where
 
   named_by-read : (int at : At) (x : Bytes) (a : Parts) (ts : List Token) (y : Parts × List Token) (o s : Option (List Token)) → after round_open ts ≡ o → after square_open ts ≡ s
       → named_by unit d a int.pos x ts o s ≡ Some y → IsExternalRead a (keyword int_key int ∷ token at (w.Ident x) ∷ ts) y
-  unfolding number_global
+  unfolding number_global initial_at
   named_by-read int at x a ts y (Some inside) s opens array q =
       let e = after-is round_open ts inside opens in
       subst (λ (us : List Token). IsExternalRead a (keyword int_key int ∷ token at (w.Ident x) ∷ us) y) (sym e.1) (headed-read int at e.0 true x a inside y q)
   named_by-read int at x a ts y None (Some inside) opens array q =
       let e = after-is square_open ts inside array in
       subst (λ (us : List Token). IsExternalRead a (keyword int_key int ∷ token at (w.Ident x) ∷ us) y) (sym e.1) (array-read int at e.0 x a inside y q)
-  named_by-read int at x a ts y None None opens array q = number_by-read int at x a ts y (after equals ts) refl q
+  named_by-read int at x a ts y None None opens array q = number-read int at x a ts y (after equals ts) refl q
 
   int_by-read : (int : At) (a : Parts) (ts : List Token) (y : Parts × List Token) (o : Option (Bytes × List Token)) → name_at ts ≡ o → int_by unit d a int.pos ts o ≡ Some y → IsExternalRead a (keyword int_key int ∷ ts) y
   int_by-read int a ts y None named q = pointer_global-read int a ts y q

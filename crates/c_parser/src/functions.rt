@@ -54,7 +54,7 @@ fn body_start(
 {
     let mut scope = Scope::new(alloc, early);
     for param in params {
-        scope.declare(param.1.copy(alloc)?)?;
+        scope.declare(alloc, &param.1)?;
     }
     Ok(scope)
 }

@@ -8,9 +8,9 @@ ghost use Rattle.c_grammar.specs.Units as units;
 use crate::parts::{Parts, arity_refusals, array_refusals};
 use c_expressions::front::{after, name_at, number_at, skip};
 use c_expressions::parse_error::ParseError;
+use c_expressions::pointer::pointer_at;
 use c_lang::{GlobalVar, Name, Pos, Refusal, Shape};
 use c_lexer::{Token, punctuator};
-use c_statements::pointer::pointer_at;
 use sqlite_items::Items;
 use std::alloc::{AllocError, Global};
 
@@ -53,6 +53,18 @@ fn add_number(
     parts.add_global(global, 1, Items::new(alloc))
 }
 
+// An `int`'s initial value, behind its name.
+#[tactic(auto, unfolding(crate::specs::Code::UnitReading::initial_at))]
+fn initial_at(tokens: &[Token]) -> Result<(i32, &[Token]), ParseError>
+    ensures read { Gives (λ x. (x.0, x.1.now)) result (spec.initial_at tokens.now) }
+    ensures rest { IfOk result (λ x. length x.1.now ≤ length tokens.now) }
+{
+    match skip(punctuator::EQUALS, tokens) {
+        Some(given) => signed_at(given),
+        None => Ok((0, tokens)),
+    }
+}
+
 /// An `int`, behind its name.
 #[tactic(auto, unfolding(crate::specs::Code::UnitReading::number_global))]
 pub fn number_global<'a>(
@@ -65,19 +77,10 @@ pub fn number_global<'a>(
     ensures read { Gives (λ rest. (parts.new, rest.now)) result (spec.number_global parts.old pos name.now tokens.now) }
     ensures rest { IfOk result (λ rest. length rest.now < length tokens.now) }
 {
-    match skip(punctuator::EQUALS, tokens) {
-        Some(given) => {
-            let (value, end) = signed_at(given)?;
-            let rest = after(punctuator::SEMICOLON, end)?;
-            add_number(alloc, parts, pos, name, value)?;
-            Ok(rest)
-        }
-        None => {
-            let rest = after(punctuator::SEMICOLON, tokens)?;
-            add_number(alloc, parts, pos, name, 0)?;
-            Ok(rest)
-        }
-    }
+    let (value, end) = initial_at(tokens)?;
+    let rest = after(punctuator::SEMICOLON, end)?;
+    add_number(alloc, parts, pos, name, value)?;
+    Ok(rest)
 }
 
 fn value<'a>(values: &mut Items<i32>, tokens: &'a [Token]) -> Result<&'a [Token], ParseError>

@@ -8,9 +8,9 @@ ghost use Rattle.c_grammar.specs.Units as units;
 use crate::parts::arity_refusals;
 use c_expressions::front::{after, after_key, name_at, skip, skip_key};
 use c_expressions::parse_error::ParseError;
+use c_expressions::pointer::pointer_at;
 use c_lang::{Kind, Name, Pos, Refusal};
 use c_lexer::{Token, keyword, punctuator};
-use c_statements::pointer::pointer_at;
 use sqlite_items::Items;
 use std::alloc::{AllocError, Global};
 
@@ -131,7 +131,10 @@ pub fn params_at(
         return Ok((Params::new(alloc), rest));
     }
     match skip_key(keyword::VOID, tokens) {
-        Some(inside) => Ok((Params::new(alloc), after(punctuator::ROUND_CLOSE, inside)?)),
+        Some(inside) => {
+            let rest = after(punctuator::ROUND_CLOSE, inside)?;
+            Ok((Params::new(alloc), rest))
+        }
         None => {
             let (params, closing) = several(alloc, pos, tokens)?;
             Ok((params, after(punctuator::ROUND_CLOSE, closing)?))

@@ -16,9 +16,10 @@ use Rattle.c_grammar.specs.Expressions.{Tree, tokens_of, expr_of, IsGrouped}
 use Rattle.c_grammar.specs.Expressions as e
 use Rattle.c_expressions.specs.Code.ExpressionReading.{expr}
 use Rattle.c_grammar.specs.Statements as g
-use Rattle.c_statements.specs.Code.StatementReading.{right_side, call_at, condition, pointer_at, Read, made, assign, assign_element, run, keyword_stmt, named_stmt, initialized, declare_pointer, return_at, checked, point_at, force_at, One, end_one, one_at, side_of_pick, pick_at, chain, nothing, items_by, items, body_by, body, branch, repeat, stmt_at, stmt}
+use Rattle.c_expressions.specs.Code.SideReading.{right_side, call_at, condition, pointer_at}
+use Rattle.c_statements.specs.Code.StatementReading.{Read, made, assign, assign_element, run, keyword_stmt, named_stmt, initialized, declare_pointer, return_at, checked, point_at, force_at, One, end_one, one_at, side_of_pick, pick_at, chain, nothing, items_by, items, body_by, body, branch, repeat, stmt_at, stmt}
 use Rattle.c_expressions.proofs.ExpressionComplete.{reads_all, found as found_expr}
-use Rattle.c_statements.proofs.SideComplete.{begins_so, args_again, found_call, call_again, found_side, side_again, cond_again, no_pick, pointer_again}
+use Rattle.c_expressions.proofs.SideComplete.{begins_so, args_again, found_call, call_again, found_side, side_again, cond_again, no_pick, pointer_again}
 
 abbrev pub found : g.Piece → Scope → List Token → Read
 found t sc rest = record { stmts = g.stmts t sc; height = g.height t; is_open = g.is_open t; scope = g.scope_after t sc; rest = rest }

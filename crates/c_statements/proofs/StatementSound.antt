@@ -21,11 +21,12 @@ use Rattle.c_grammar.specs.Expressions.{tokens_of, expr_of, IsGrouped}
 use Rattle.c_grammar.specs.Expressions as e
 use Rattle.c_expressions.specs.Code.ExpressionReading.{Found, expr}
 use Rattle.c_grammar.specs.Statements as g
-use Rattle.c_statements.specs.Code.StatementReading.{Called, Side, right_side, call_at, input_at, choice_at, condition, Pointer, pointer_at, Read, made, done, assign, assign_element, run, named_by, named_stmt, initialized, declare_pointer, declaration, declaration_by, return_by, return_at, checked, point_at, force_at, One, end_one, call_behind, one_by, one_at, side_of_pick_by, side_of_pick, pick_at, updated_at, keyword_stmt, chain, nothing, if_only, if_else, while_loop, items_by, items, body_by, body, else_by, branch, if_by, repeat, key_stmt, stmt_by, stmt_at, stmt}
+use Rattle.c_expressions.specs.Code.SideReading.{Called, Side, right_side, call_at, input_at, choice_at, condition, Pointer, pointer_at}
+use Rattle.c_statements.specs.Code.StatementReading.{Read, made, done, assign, assign_element, run, named_by, named_stmt, initialized, declare_pointer, declaration, declaration_by, return_by, return_at, checked, point_at, force_at, One, end_one, call_behind, one_by, one_at, side_of_pick_by, side_of_pick, pick_at, updated_at, keyword_stmt, chain, nothing, if_only, if_else, while_loop, items_by, items, body_by, body, else_by, branch, if_by, repeat, key_stmt, stmt_by, stmt_at, stmt}
 use Rattle.c_expressions.proofs.OperatorLaws.{chosen}
 use Rattle.c_expressions.proofs.ExpressionSound.{bind_some, some_is, after-is, at_of, reads_trees}
-use Rattle.c_statements.proofs.SideComplete.{found_side}
-use Rattle.c_statements.proofs.SideSound.{after_key-is, name_at-is, number_at-is, function-read, IsCallRead, named_call-read, input-read, choice-read, side-read, IsCondRead, cond-read, pointer-read}
+use Rattle.c_expressions.proofs.SideComplete.{found_side}
+use Rattle.c_expressions.proofs.SideSound.{after_key-is, name_at-is, number_at-is, function-read, IsCallRead, named_call-read, input-read, choice-read, side-read, IsCondRead, cond-read, pointer-read}
 use Rattle.c_statements.proofs.StatementComplete.{found, found_simple, found_body, found_one, found_pick, added, NoElse}
 
 pub record IsSimpleRead (u : Unit) (d : ℕ) (m l : Bool) (sc : Scope) (ts : List Token) (x : Read) : Type 0 where

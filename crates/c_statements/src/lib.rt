@@ -3,8 +3,6 @@
 #![tactic(auto)]
 
 pub mod pick;
-pub mod pointer;
-pub mod right;
 pub mod scope;
 pub mod simple;
 pub mod statements;

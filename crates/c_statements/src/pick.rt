@@ -4,13 +4,13 @@ ghost use Rattle.std.specs.Prelude.{◌≡◌, ◌≤◌, ◌<◌, ◌+◌, ◌-
 ghost use Rattle.c_expressions.specs.Code.ParseSteps.{Gives};
 ghost use Rattle.c_grammar.specs.Scopes as scopes;
 ghost use Rattle.c_statements.specs.Code.StatementReading as spec;
-ghost use Rattle.c_statements.specs.Code.Seen.{seen_called, seen_one, seen_read};
+ghost use Rattle.c_statements.specs.Code.Seen.{seen_one, seen_read};
 
-use crate::right::{Called, call_at};
 use crate::scope::is_client;
 use crate::simple::{Parsed, call_to, only};
 use c_expressions::front::{after, after_key, name_at, skip, skip_key};
 use c_expressions::parse_error::ParseError;
+use c_expressions::right::call_at;
 use c_lang::{Dest, Name, Pos, Stmt, Unit};
 use c_lexer::{Token, Word, keyword, punctuator};
 use sqlite_items::Boxed;
@@ -24,12 +24,22 @@ pub struct One<'a> {
     pub rest: &'a [Token],
 }
 
-fn end_one(alloc: Global, pos: Pos, dest: Dest, called: Called<'_>) -> Result<One<'_>, ParseError>
-    requires { called.height + 1 < 2 ^ 32 }
-    ensures read { Gives seen_one result (spec.end_one pos dest (Some (seen_called called.entry))) }
-    ensures height { IfOk result (λ x. x.height ≡ called.entry.height + 1) }
-    ensures rest { IfOk result (λ x. length x.rest.now < length called.entry.rest.now) }
+// A call behind its name, up to the semicolon.
+fn end_one<'a>(
+    alloc: Global,
+    below: u32,
+    pos: Pos,
+    dest: Dest,
+    callee: &Name,
+    tokens: &'a [Token],
+) -> Result<One<'a>, ParseError>
+    requires { below + 1 < 2 ^ 32 }
+    ensures read { Gives seen_one result (spec.end_one pos dest (spec.call_behind below callee.now tokens.now)) }
+    ensures height { IfOk result (λ x. x.height ≤ below + 1) }
+    ensures rest { IfOk result (λ x. length x.rest.now < length tokens.now) }
 {
+    let inside = after(punctuator::ROUND_OPEN, tokens)?;
+    let called = call_at(alloc, below, callee, inside)?;
     let rest = after(punctuator::SEMICOLON, called.rest)?;
     Ok(One {
         stmt: Boxed::new(alloc, call_to(pos, dest, called.call))?,
@@ -38,21 +48,6 @@ fn end_one(alloc: Global, pos: Pos, dest: Dest, called: Called<'_>) -> Result<On
     })
 }
 
-fn call_behind<'a>(
-    alloc: Global,
-    below: u32,
-    callee: &Name,
-    tokens: &'a [Token],
-) -> Result<Called<'a>, ParseError>
-    ensures read { Gives seen_called result (spec.call_behind below callee.now tokens.now) }
-    ensures height { IfOk result (λ x. x.height ≤ below) }
-    ensures rest { IfOk result (λ x. length x.rest.now < length tokens.now) }
-{
-    let inside = after(punctuator::ROUND_OPEN, tokens)?;
-    call_at(alloc, below, callee, inside)
-}
-
-/// `below` bounds the height of the call alone.
 #[tactic(auto, unfolding(crate::specs::Code::StatementReading::one_at))]
 fn one_at(alloc: Global, below: u32, tokens: &[Token]) -> Result<One<'_>, ParseError>
     requires { below + 1 < 2 ^ 32 }
@@ -67,22 +62,12 @@ fn one_at(alloc: Global, below: u32, tokens: &[Token]) -> Result<One<'_>, ParseE
         return Err(ParseError::Syntax(tokens.len()));
     };
     match skip(punctuator::EQUALS, rest) {
-        None => end_one(
-            alloc,
-            first.pos,
-            Dest::Nowhere,
-            call_behind(alloc, below, name, rest)?,
-        ),
+        None => end_one(alloc, below, first.pos, Dest::Nowhere, name, rest),
         Some(given) => match name_at(given) {
             None => Err(ParseError::Syntax(given.len())),
             Some((callee, args)) => {
                 let dest = Dest::Into(name.copy(alloc)?);
-                end_one(
-                    alloc,
-                    first.pos,
-                    dest,
-                    call_behind(alloc, below, callee, args)?,
-                )
+                end_one(alloc, below, first.pos, dest, callee, args)
             }
         },
     }

@@ -55,10 +55,10 @@ impl Scope {
     }
 
     /// Declares a name. The only error is want of memory.
-    pub fn declare(&mut self, name: Name) -> Result<(), AllocError>
-        ensures { OnOk result (self.new ≡ spec.declare self.old name) }
+    pub fn declare(&mut self, alloc: Global, name: &Name) -> Result<(), AllocError>
+        ensures { OnOk result (self.new ≡ spec.declare self.old name.now) }
     {
-        match self.declared.insert(name) {
+        match self.declared.insert(name.copy(alloc)?) {
             Ok(_) => Ok(()),
             Err(_) => Err(AllocError),
         }
@@ -91,12 +91,6 @@ impl Scope {
     {
         self.early
     }
-}
-
-pub fn is_merge(unit: Unit) -> bool
-    ensures { result ≡ spec.is_merge unit }
-{
-    matches!(unit, Unit::Merge)
 }
 
 pub fn is_client(unit: Unit) -> bool

@@ -5,15 +5,15 @@ ghost use Rattle.c_expressions.specs.Code.ParseSteps.{Gives};
 ghost use Rattle.c_grammar.specs.Scopes as scopes;
 ghost use Rattle.c_grammar.specs.Statements as grammar;
 ghost use Rattle.c_statements.specs.Code.StatementReading as spec;
-ghost use Rattle.c_expressions.specs.Code.Seen.{seen};
-ghost use Rattle.c_statements.specs.Code.Seen.{seen_called, seen_read, IsWithin};
+ghost use Rattle.c_expressions.specs.Code.Seen.{seen_called};
+ghost use Rattle.c_statements.specs.Code.Seen.{seen_read, IsWithin};
 
-use crate::pointer::{Pointer, pointer_at};
-use crate::right::{Called, call_at, right_side};
-use crate::scope::{Scope, is_client, is_merge};
-use c_expressions::expressions::{Found, expression};
+use crate::scope::{Scope, is_client};
+use c_expressions::expressions::expression;
 use c_expressions::front::{after, name_at, number_at, skip};
 use c_expressions::parse_error::ParseError;
+use c_expressions::pointer::{Pointer, pointer_at};
+use c_expressions::right::{Called, call_at, condition, is_merge, right_side};
 use c_grammar::{Call, Right};
 use c_lang::{Dest, Expr, Kind, Name, Pos, Stmt, Unit};
 use c_lexer::{Token, Word, punctuator};
@@ -94,6 +94,18 @@ fn right_to(pos: Pos, dest: Dest, right: Right) -> Stmt
     }
 }
 
+/// The name of one temporary more, and its value.
+fn temporary(alloc: Global, scope: &mut Scope) -> Result<(Name, Boxed<Expr>), AllocError>
+    requires { scope.old.count + 1 < 2 ^ 64 }
+    ensures name { IfOk result (λ x. x.0 ≡ scopes.temporary (scope.old.count + 1)) }
+    ensures value { IfOk result (λ x. x.1 ≡ Expr.Var (scopes.temporary (scope.old.count + 1))) }
+    ensures scope { OnOk result (scope.new ≡ scopes.one_more scope.old) }
+{
+    let name = scope.next_temporary(alloc)?;
+    let value = Boxed::new(alloc, Expr::Var(name.copy(alloc)?))?;
+    Ok((name, value))
+}
+
 /// The statement that stores a call's result in the next temporary, and the temporary.
 fn to_temporary(
     alloc: Global,
@@ -106,8 +118,7 @@ fn to_temporary(
     ensures value { IfOk result (λ x. x.1 ≡ Expr.Var (scopes.temporary (scope.old.count + 1))) }
     ensures scope { OnOk result (scope.new ≡ scopes.one_more scope.old) }
 {
-    let name = scope.next_temporary(alloc)?;
-    let value = Boxed::new(alloc, Expr::Var(name.copy(alloc)?))?;
+    let (name, value) = temporary(alloc, scope)?;
     let stmts = only(alloc, call_to(pos, Dest::Fresh(Kind::Int, name), call))?;
     Ok((stmts, value))
 }
@@ -253,7 +264,12 @@ pub fn run(alloc: Global, pos: Pos, called: Called<'_>) -> Result<Parsed<'_>, Pa
     ensures rest { IfOk result (λ x. length x.rest.now < length called.entry.rest.now) }
 {
     let height = called.height + 1;
-    single(alloc, call_to(pos, Dest::Nowhere, called.call), height, called.rest)
+    single(
+        alloc,
+        call_to(pos, Dest::Nowhere, called.call),
+        height,
+        called.rest,
+    )
 }
 
 /// A statement that begins with a name, behind the name.
@@ -301,7 +317,7 @@ fn initialized<'a>(
     ensures read { Gives (seen_read scope.new) result (spec.initialized unit below pos kind name.now scope.old tokens.now) }
     ensures within { IfOk result (λ x. IsWithin (below + 1) scope.old scope.new tokens.now x) }
 {
-    scope.declare(name.copy(alloc)?)?;
+    scope.declare(alloc, name)?;
     let given = after(punctuator::EQUALS, tokens)?;
     let side = right_side(alloc, unit, below, given)?;
     let height = side.height + 1;
@@ -373,23 +389,6 @@ pub fn return_at<'a>(
     let height = side.height + 1;
     let stmts = returned(alloc, pos, scope, side.right)?;
     done(stmts, height, side.rest)
-}
-
-/// An expression in the brackets of its statement.
-#[tactic(auto, unfolding(crate::specs::Code::StatementReading::condition))]
-pub fn condition(alloc: Global, below: u32, tokens: &[Token]) -> Result<Found<'_>, ParseError>
-    ensures read { Gives seen result (spec.condition below tokens.now) }
-    ensures height { IfOk result (λ x. x.height ≤ below) }
-    ensures rest { IfOk result (λ x. length x.rest.now < length tokens.now) }
-{
-    let inside = after(punctuator::ROUND_OPEN, tokens)?;
-    let found = expression(alloc, below, 1, inside)?;
-    let rest = after(punctuator::ROUND_CLOSE, found.rest)?;
-    Ok(Found {
-        expr: found.expr,
-        height: found.height,
-        rest,
-    })
 }
 
 /// `assert(..);`, behind its keyword.

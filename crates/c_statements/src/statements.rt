@@ -11,14 +11,14 @@ ghost use Rattle.c_statements.specs.Code.StatementReading as spec;
 ghost use Rattle.c_statements.specs.Code.Seen.{seen_read, IsWithin};
 
 use crate::pick::{pick_at, updated_at};
-use crate::right::{choice_at, input_at};
 use crate::scope::Scope;
 use crate::simple::{
-    Parsed, assert_at, condition, declaration, force_at, named, only, output_at, point_at,
-    return_at, run, single,
+    Parsed, assert_at, declaration, force_at, named, only, output_at, point_at, return_at, run,
+    single,
 };
 use c_expressions::front::{skip, skip_key};
 use c_expressions::parse_error::ParseError;
+use c_expressions::right::{choice_at, condition, input_at};
 use c_lang::{Expr, Pos, Stmt, Unit};
 use c_lexer::{Token, Word, keyword, punctuator};
 use sqlite_items::{Boxed, Items};

@@ -15,7 +15,8 @@ use Rattle.c_grammar.specs.declared.token.Word.TheVariants as w
 use Rattle.c_grammar.specs.Tokens.{round_open, round_close, brace_open, brace_close, square_open, square_close, semicolon, equals, minus, int_key, void_key}
 use Rattle.c_expressions.specs.Code.ParseSteps.{◌>>=◌, after, after_key, name_at, number_at, separated}
 use Rattle.c_grammar.specs.Scopes.{arity_refusals}
-use Rattle.c_statements.specs.Code.StatementReading.{nothing, items, stmt, pointer_at}
+use Rattle.c_expressions.specs.Code.SideReading.{pointer_at}
+use Rattle.c_statements.specs.Code.StatementReading.{nothing, items, stmt}
 use Rattle.c_lang.specs.declared.program.Program.{Program}
 use Rattle.c_grammar.specs.Grammar.{program_of}
 use Rattle.c_grammar.specs.Units.{no_parts, with_proto, with_func, with_number, with_array, with_pointer, body_start}
@@ -72,13 +73,17 @@ value acc ts = signed_at ts >>= λ x. Some (acc ++ x.0 ∷ [], x.1)
 abbrev pub ended : {A : Type 0} → A → List Token → Option (A × List Token)
 ended x ts = after semicolon ts >>= λ rest. Some (x, rest)
 
-abbrev pub number_by : Parts → Pos → Bytes → List Token → Option (List Token) → Option (Parts × List Token)
-number_by a p x ts (Some given) = signed_at given >>= λ z. ended (with_number a p x z.0) z.1
-number_by a p x ts None = ended (with_number a p x (pos 0)) ts
+abbrev pub initial_by : List Token → Option (List Token) → Option (ℤ × List Token)
+initial_by ts (Some given) = signed_at given
+initial_by ts None = Some (pos 0, ts)
+
+-- an initial value, or 0, behind the name
+unfoldable pub initial_at : List Token → Option (ℤ × List Token)
+initial_at ts = initial_by ts (after equals ts)
 
 -- behind the name
 unfoldable pub number_global : Parts → Pos → Bytes → List Token → Option (Parts × List Token)
-number_global a p x ts = number_by a p x ts (after equals ts)
+number_global a p x ts = initial_at ts >>= λ z. ended (with_number a p x z.0) z.1
 
 abbrev pub values_by : List Token → Option (List Token) → Option (List ℤ × List Token)
 values_by ts (Some given) = do

@@ -1,4 +1,3 @@
-use Rattle.std.proofs.Common.{sym}
 use Rattle.c_statements.specs.Code.StatementReading.{keyword_stmt}
 use Rattle.c_statements.proofs.statements.keyword.Goals as goal
 

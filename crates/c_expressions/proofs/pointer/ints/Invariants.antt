@@ -1,8 +1,8 @@
 use Rattle.std.proofs.Common.{◌≤◌, ◌+◌, length}
 use Rattle.c_expressions.specs.Code.ParseSteps.{separated}
-use Rattle.c_statements.specs.Code.StatementReading as spec
+use Rattle.c_expressions.specs.Code.SideReading as spec
 use Rattle.c_expressions.proofs.SeparatedTurns.{IsLeft}
-use Rattle.c_statements.proofs.pointer.ints.Given as goal
+use Rattle.c_expressions.proofs.pointer.ints.Given as goal
 
 abbrev pub invariant-loop-next : goal.invariant-loop-next
 invariant-loop-next l = record {

@@ -1,9 +1,9 @@
 use Rattle.std.proofs.Common.{◌≤◌, ◌+◌, max, length}
 use Rattle.c_expressions.specs.Code.ParseSteps.{separated}
-use Rattle.c_statements.specs.Code.StatementReading as spec
-use Rattle.c_statements.specs.Code.Seen.{seen_args}
+use Rattle.c_expressions.specs.Code.SideReading as spec
+use Rattle.c_expressions.specs.Code.Seen.{seen_args}
 use Rattle.c_expressions.proofs.SeparatedTurns.{IsLeft}
-use Rattle.c_statements.proofs.right.arguments.Given as goal
+use Rattle.c_expressions.proofs.right.arguments.Given as goal
 
 abbrev pub invariant-loop-next : goal.invariant-loop-next
 invariant-loop-next l = record {

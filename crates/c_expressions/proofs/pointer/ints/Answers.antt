@@ -1,8 +1,8 @@
 use Rattle.std.proofs.Common.{arith, sym, refl, ◌+◌, ◌<◌, length}
 use Rattle.std.proofs.lemmas.Result.{err_from_is_err_and}
-use Rattle.c_statements.specs.Code.StatementReading as spec
+use Rattle.c_expressions.specs.Code.SideReading as spec
 use Rattle.c_expressions.proofs.SeparatedTurns.{goes_on, ends, fails}
-use Rattle.c_statements.proofs.pointer.ints.Goals as goal
+use Rattle.c_expressions.proofs.pointer.ints.Goals as goal
 
 pub loop-next-init : goal.loop-next-init
 loop-next-init c = record { total = (length c.args.tokens.now + 1, omega arith, refl); count = omega arith; shorter = omega arith }

@@ -18,12 +18,12 @@ use Rattle.c_grammar.specs.Expressions.{Tree, tokens_of, expr_of, IsGrouped}
 use Rattle.c_grammar.specs.Expressions as e
 use Rattle.c_expressions.specs.Code.ExpressionReading.{Found, expr}
 use Rattle.c_grammar.specs.Statements as g
-use Rattle.c_statements.specs.Code.StatementReading.{Args, argument, with_argument, no_args, close_call, call_by, Called, call_at, input_at, choice_at, Side, value_at, called, named_side, side_by, right_side, condition, Pointer, count_int, ints_by, ints_at, pointer_at}
+use Rattle.c_expressions.specs.Code.SideReading.{Args, argument, with_argument, no_args, close_call, call_by, Called, call_at, input_at, choice_at, Side, value_at, called, named_side, side_by, right_side, condition, Pointer, count_int, ints_by, ints_at, pointer_at}
 use Rattle.c_expressions.proofs.OperatorLaws.{chosen}
 use Rattle.c_expressions.proofs.ExpressionSound.{bind_some, some_is, after-is, at_of, reads_trees}
 use Rattle.c_expressions.proofs.ExpressionComplete.{found as found_expr}
 use Rattle.c_expressions.proofs.SeparatedLaws.{IsPart, parts_read}
-use Rattle.c_statements.proofs.SideComplete.{Fits, add_argument, added_are, found_call, found_side, count_part, counted_are}
+use Rattle.c_expressions.proofs.SideComplete.{Fits, add_argument, added_are, found_call, found_side, count_part, counted_are}
 
 -- ---- single tokens
 

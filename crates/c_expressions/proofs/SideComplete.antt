@@ -19,7 +19,7 @@ use Rattle.c_grammar.specs.Expressions.{Tree, number, name, element, brackets, n
 use Rattle.c_grammar.specs.Expressions as e
 use Rattle.c_expressions.specs.Code.ExpressionReading.{Found, next_operator, expr}
 use Rattle.c_grammar.specs.Statements as g
-use Rattle.c_statements.specs.Code.StatementReading.{Args, argument, with_argument, no_args, close_call, Called, call_at, input_at, choice_at, Side, value_at, right_side, condition, count_int, ints_by, ints_at, pointer_at}
+use Rattle.c_expressions.specs.Code.SideReading.{Args, argument, with_argument, no_args, close_call, Called, call_at, input_at, choice_at, Side, value_at, right_side, condition, count_int, ints_by, ints_at, pointer_at}
 use Rattle.c_expressions.proofs.ExpressionComplete.{reads_all, found as found_expr}
 use Rattle.c_expressions.proofs.SeparatedLaws.{all_added, reads_all_parts, size_fits}
 

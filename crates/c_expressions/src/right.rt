@@ -1,14 +1,14 @@
-//! Right sides: an expression, or a call.
+//! Right sides: an expression, or a call; and conditions.
 
 ghost use Rattle.std.specs.Prelude.{◌≡◌, ◌≤◌, ◌<◌, ◌+◌, ◌-◌, ◌^◌, max, length, IfOk};
 ghost use Rattle.c_expressions.specs.Code.ParseSteps.{Gives, separated};
-ghost use Rattle.c_statements.specs.Code.StatementReading as spec;
-ghost use Rattle.c_statements.specs.Code.Seen.{seen_args, seen_called, seen_side};
+ghost use Rattle.c_grammar.specs.Scopes as scopes;
+ghost use Rattle.c_expressions.specs.Code.SideReading as spec;
+ghost use Rattle.c_expressions.specs.Code.Seen.{seen, seen_args, seen_called, seen_side};
 
-use crate::scope::is_merge;
-use c_expressions::expressions::expression;
-use c_expressions::front::{after, number_at, skip};
-use c_expressions::parse_error::ParseError;
+use crate::expressions::{Found, expression};
+use crate::front::{after, number_at, skip};
+use crate::parse_error::ParseError;
 use c_grammar::{Call, Right};
 use c_lang::{Expr, Name, Unit};
 use c_lexer::{Token, Word, keyword, punctuator};
@@ -34,6 +34,12 @@ pub struct Side<'a> {
     pub right: Right,
     pub height: u32,
     pub rest: &'a [Token],
+}
+
+pub fn is_merge(unit: Unit) -> bool
+    ensures { result ≡ scopes.is_merge unit }
+{
+    matches!(unit, Unit::Merge)
 }
 
 fn argument<'a>(
@@ -76,7 +82,7 @@ fn arguments(alloc: Global, below: u32, tokens: &[Token]) -> Result<(Args, &[Tok
 }
 
 /// The call of a function, behind the opening bracket.
-#[tactic(auto, unfolding(crate::specs::Code::StatementReading::call_at))]
+#[tactic(auto, unfolding(crate::specs::Code::SideReading::call_at))]
 pub fn call_at<'a>(
     alloc: Global,
     below: u32,
@@ -107,7 +113,7 @@ pub fn call_at<'a>(
 }
 
 /// `client_in()`, behind its keyword.
-#[tactic(auto, unfolding(crate::specs::Code::StatementReading::input_at))]
+#[tactic(auto, unfolding(crate::specs::Code::SideReading::input_at))]
 pub fn input_at(below: u32, tokens: &[Token]) -> Result<Called<'_>, ParseError>
     ensures read { Gives seen_called result (spec.input_at below tokens.now) }
     ensures height { IfOk result (λ x. x.height ≤ below) }
@@ -126,7 +132,7 @@ pub fn input_at(below: u32, tokens: &[Token]) -> Result<Called<'_>, ParseError>
 }
 
 /// `dsu_choice(k)`, behind its keyword.
-#[tactic(auto, unfolding(crate::specs::Code::StatementReading::choice_at))]
+#[tactic(auto, unfolding(crate::specs::Code::SideReading::choice_at))]
 pub fn choice_at(unit: Unit, below: u32, tokens: &[Token]) -> Result<Called<'_>, ParseError>
     ensures read { Gives seen_called result (spec.choice_at unit below tokens.now) }
     ensures height { IfOk result (λ x. x.height ≤ below) }
@@ -173,7 +179,7 @@ fn call_side(call: Called<'_>) -> Side<'_>
 }
 
 /// A right side that is at most `below` high.
-#[tactic(auto, unfolding(crate::specs::Code::StatementReading::right_side))]
+#[tactic(auto, unfolding(crate::specs::Code::SideReading::right_side))]
 pub fn right_side(
     alloc: Global,
     unit: Unit,
@@ -197,4 +203,21 @@ pub fn right_side(
         Word::Key(_) => Err(ParseError::Syntax(tokens.len())),
         _ => value(alloc, below, tokens),
     }
+}
+
+/// An expression in the brackets of its statement.
+#[tactic(auto, unfolding(crate::specs::Code::SideReading::condition))]
+pub fn condition(alloc: Global, below: u32, tokens: &[Token]) -> Result<Found<'_>, ParseError>
+    ensures read { Gives seen result (spec.condition below tokens.now) }
+    ensures height { IfOk result (λ x. x.height ≤ below) }
+    ensures rest { IfOk result (λ x. length x.rest.now < length tokens.now) }
+{
+    let inside = after(punctuator::ROUND_OPEN, tokens)?;
+    let found = expression(alloc, below, 1, inside)?;
+    let rest = after(punctuator::ROUND_CLOSE, found.rest)?;
+    Ok(Found {
+        expr: found.expr,
+        height: found.height,
+        rest,
+    })
 }

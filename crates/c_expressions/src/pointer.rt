@@ -2,11 +2,11 @@
 
 ghost use Rattle.std.specs.Prelude.{◌≡◌, ◌≤◌, ◌<◌, ◌+◌, length, IfOk};
 ghost use Rattle.c_expressions.specs.Code.ParseSteps.{Gives, separated};
-ghost use Rattle.c_statements.specs.Code.StatementReading as spec;
-ghost use Rattle.c_statements.specs.Code.Seen.{seen_pointer};
+ghost use Rattle.c_expressions.specs.Code.SideReading as spec;
+ghost use Rattle.c_expressions.specs.Code.Seen.{seen_pointer};
 
-use c_expressions::front::{after, after_key, name_at, skip, skip_key};
-use c_expressions::parse_error::ParseError;
+use crate::front::{after, after_key, name_at, skip, skip_key};
+use crate::parse_error::ParseError;
 use c_lang::Name;
 use c_lexer::{Token, keyword, punctuator};
 
@@ -48,7 +48,7 @@ fn ints(tokens: &[Token]) -> Result<(u8, &[Token]), ParseError>
     }
 }
 
-#[tactic(auto, unfolding(crate::specs::Code::StatementReading::ints_at))]
+#[tactic(auto, unfolding(crate::specs::Code::SideReading::ints_at))]
 fn ints_at(tokens: &[Token]) -> Result<(u8, &[Token]), ParseError>
     ensures read { Gives (λ x. (x.0, x.1.now)) result (spec.ints_at tokens.now) }
     ensures count { IfOk result (λ x. x.0 ≤ 33) }
@@ -67,7 +67,7 @@ fn ints_at(tokens: &[Token]) -> Result<(u8, &[Token]), ParseError>
 }
 
 /// `(*NAME)(int, int)`.
-#[tactic(auto, unfolding(crate::specs::Code::StatementReading::pointer_at))]
+#[tactic(auto, unfolding(crate::specs::Code::SideReading::pointer_at))]
 pub fn pointer_at(tokens: &[Token]) -> Result<Pointer<'_>, ParseError>
     ensures read { Gives seen_pointer result (spec.pointer_at tokens.now) }
     ensures arity { IfOk result (λ x. x.arity ≤ 33) }

@@ -1,9 +1,9 @@
 use Rattle.std.proofs.Common.{arith, sym, refl, ◌+◌, ◌<◌, length}
 use Rattle.std.proofs.lemmas.Result.{err_from_is_err_and}
-use Rattle.c_statements.specs.Code.StatementReading as spec
-use Rattle.c_statements.specs.Code.Seen.{seen_args}
+use Rattle.c_expressions.specs.Code.SideReading as spec
+use Rattle.c_expressions.specs.Code.Seen.{seen_args}
 use Rattle.c_expressions.proofs.SeparatedTurns.{goes_on, ends, fails}
-use Rattle.c_statements.proofs.right.arguments.Goals as goal
+use Rattle.c_expressions.proofs.right.arguments.Goals as goal
 
 pub loop-next-init : goal.loop-next-init
 loop-next-init c = record { total = (length c.args.tokens.now + 1, omega arith, rw c.new.ensures refl); height = omega arith; shorter = omega arith }
