@@ -62,7 +62,7 @@ pub fn accept(
     new: &[u8],
     xform: &[u8],
     listed: Option<&[u32]>,
-) -> Result<World, Fail>
+) -> Result<Boxed<World>, Fail>
     ensures { MatchResult result
         (λ world. spec.IsAccepted (option_copied listed.entry) (spec.texts old.now new.now xform.now) (world_of world))
         (IsRefusedBy (spec.conditions (option_copied listed.entry) (spec.texts old.now new.now xform.now))) }
@@ -167,7 +167,7 @@ fn make_world(
     versions: Versions,
     xform: Boxed<Program>,
     listed: Option<&[u32]>,
-) -> Result<World, Fail>
+) -> Result<Boxed<World>, Fail>
     requires old { versions.old.unit ≡ unit.Old }
     requires old_kept { IsKept versions.old }
     requires new { versions.new.unit ≡ unit.New }
@@ -186,11 +186,12 @@ fn make_world(
         links.get(),
         xform.into_inner(),
     )?;
-    Ok(World::new(
+    let world = World::new(
         versions.old.into_inner(),
         versions.new.into_inner(),
         xform,
         links.into_inner(),
         points.into_inner(),
-    ))
+    );
+    Ok(Boxed::new(alloc, world)?)
 }

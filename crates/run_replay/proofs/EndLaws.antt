@@ -11,8 +11,8 @@ use Rattle.plain_run.specs.Runs.{Makes}
 use Rattle.plain_run.specs.declared.step.Step.{Step}
 use Rattle.plain_run.specs.declared.step.Step.TheVariants.{Quiet, Shown, Waiting, Stopped}
 use Rattle.run_replay.specs.Closes.{EndsWith, ShowsItsEnd}
-use Rattle.run_replay.proofs.MoveLaws.{IsLive, Follows, EndsRightly, step_ends}
-use Rattle.run_replay.proofs.ReachedLaws.{shown_of}
+use Rattle.run_replay.specs.Code.After.{IsLive, shown_of}
+use Rattle.run_replay.proofs.MoveLaws.{Follows, EndsRightly, step_ends}
 
 module _ {F G O : Type 0} where
   shows_if_live : (c : Config F G O) (shown : List Event) → IsLive c → ShowsItsEnd c shown

@@ -2,3 +2,4 @@ pub mod MoveLaws
 pub mod ReachedLaws
 pub mod EndLaws
 pub mod AfterLaws
+pub mod MachineEnds

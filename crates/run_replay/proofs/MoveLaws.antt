@@ -15,10 +15,7 @@ use Rattle.c_lang.specs.declared.stmt.Stmt.{Stmt, out-Stmt}
 use Rattle.c_lang.specs.declared.stmt.Stmt.TheOpen.{Stmt-F}
 use Rattle.c_lang.specs.declared.stmt.Stmt.TheOpen as one
 use Rattle.c_lang.specs.declared.unit.Pos.{Pos}
-
-abbrev pub IsLive : {F G O : Type 0} → Config F G O → Type 0
-IsLive Over = ⊥
-IsLive (Live g f fs) = Unit {0}
+use Rattle.run_replay.specs.Code.After.{IsLive}
 
 abbrev pub IsOver : {F G O : Type 0} → Config F G O → Type 0
 IsOver Over = Unit {0}
@@ -65,16 +62,16 @@ module _ {F G O : Type 0} (N : Access F G O) where
   called_ends (Num z) g f fs vs d p = tt
   called_ends Null g f fs vs d p = tt
 
-  either_live : (b : Bool) (c d : Config F G O) → IsLive c → IsLive d → IsLive (if b then c else d)
+  pub either_live : (b : Bool) (c d : Config F G O) → IsLive c → IsLive d → IsLive (if b then c else d)
   either_live true c d p q = p
   either_live false c d p q = q
 
-  either_ends : (b : Bool) (m n : Move (Config F G O)) → EndsRightly m → EndsRightly n → EndsRightly (if b then m else n)
+  pub either_ends : (b : Bool) (m n : Move (Config F G O)) → EndsRightly m → EndsRightly n → EndsRightly (if b then m else n)
   either_ends true m n p q = p
   either_ends false m n p q = q
 
   module _ (special : Special N) (special_ends : (g : G) (f : Frame F O) (fs : List (Frame F O)) (l : Stmt-F Stmt) → EndsRightly (special g f fs l)) where
-    act_ends : (g : G) (f : Frame F O) (fs : List (Frame F O)) (s : Stmt) (l : Stmt-F Stmt) → EndsRightly (steps.act N special g f fs s l)
+    pub act_ends : (g : G) (f : Frame F O) (fs : List (Frame F O)) (s : Stmt) (l : Stmt-F Stmt) → EndsRightly (steps.act N special g f fs s l)
     act_ends g f fs s (one.Skip p) = tt
     act_ends g f fs s (one.Set p d e) = with_ends (steps.value_of N g f e) p _ (λ v. stored_live g f fs d v)
     act_ends g f fs s (one.SetElem p a i e) =

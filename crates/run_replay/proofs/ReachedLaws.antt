@@ -6,6 +6,7 @@ use Rattle.plain_run.specs.Runs.{Makes}
 use Rattle.plain_run.specs.declared.step.Step.{Step}
 use Rattle.plain_run.specs.declared.step.Step.TheVariants.{Quiet, Shown, Waiting, Stopped}
 use Rattle.run_replay.specs.Reached.{after_move, reached}
+use Rattle.run_replay.specs.Code.After.{shown_of}
 
 -- the events of one move
 abbrev pub shown_by : {C : Type 0} → Move C → List ℤ → List Event
@@ -66,13 +67,6 @@ module _ {C : Type 0} where
         at_once (Asks shown next) (v ∷ a) = refl
         at_once Rests a = refl
     events-next (suc n) c a = follows_first n (step c) c a refl (λ d b. events-next n d b)
-
--- the events of a step of the machine
-abbrev pub shown_of : Step → List Event
-shown_of Quiet = []
-shown_of (Shown e) = e ∷ []
-shown_of Waiting = []
-shown_of Stopped = []
 
 abbrev pub IsStill : Step → Type 0
 IsStill Quiet = ⊥

@@ -3,6 +3,10 @@
 
 pub mod plain;
 pub mod replay;
+mod stepping;
+mod steps;
+pub mod updated;
 
 pub use plain::replay_plain;
 pub use replay::{Close, Replay};
+pub use updated::replay_updated;

@@ -7,6 +7,7 @@ pub mod HeadlineLemmas
 pub mod RunHeadlineLemmas
 pub mod ReplayHeadlineLemmas
 pub mod RunLemmas
+pub mod ReplayLemmas
 pub mod OptionWordLemmas
 pub mod RunWordLemmas
 pub mod NumberLemmas

@@ -8,7 +8,7 @@ use Rattle.std.specs.Str.{IsCharBoundary}
 use Rattle.std.specs.Str.Pattern.{FindsTextPrefix, StripsPrefix}
 use Rattle.std.proofs.lemmas.List.{take_more, map-append}
 use Rattle.std.proofs.lemmas.Str.Pattern.{starts_text}
-use Rattle.top_call.specs.Words.{Text, with_chosen, chosen, added}
+use Rattle.top_call.specs.Words.{Text, with_chosen, chosen, added, is_option, file_in}
 use Rattle.c_lang.specs.Names.{behind}
 use Rattle.top_call.specs.Seen.{seen_text, IsChosen}
 use Rattle.top_call.specs.declared.option_words.Chosen.{Chosen}
@@ -67,10 +67,11 @@ more-more texts text h = let e = length-added texts text in omega (arith, e, h)
 
 -- ---- the files
 
-pub no-file : (files : List (Bor Text)) (before : List Text) (given : Option Text) → given ≡ None → map seen_text files ≡ before → map seen_text files ≡ added before given
-no-file files before given none is = rw none is
+pub file-option : (files : List (Bor Text)) (word : Text) → is_option word ≡ true → map seen_text files ≡ added (map seen_text files) (file_in word)
+file-option files word is = rw is refl
 
-pub file-more : (files : List (Bor Text)) (file : Bor Text) (before : List Text) (given : Option Text) → given ≡ Some file.now → map seen_text files ≡ before
-    → map seen_text (files ++ file ∷ []) ≡ added before given
-file-more files file before given some is =
-    rw some (map-append seen_text files (file ∷ []) ∙ ap (λ (texts : List Text). texts ++ file.now ∷ []) is)
+pub file-more : (files : List (Bor Text)) (word : Bor Text) → is_option word.now ≡ false
+    → map seen_text (files ++ word ∷ []) ≡ added (map seen_text files) (file_in word.now)
+file-more files word is = rw is (map-append seen_text files (word ∷ []))
+
+pub ruleset files = (file-option, file-more)

@@ -1,6 +1,6 @@
 //! Options in words, which stand in any order among the files.
 
-ghost use Rattle.std.specs.Prelude.{◌≡◌, List, [], None, IfOk, map, option_map, string_bytes};
+ghost use Rattle.std.specs.Prelude.{◌≡◌, List, [], None, IfOk, OnOk, map, option_map, string_bytes};
 ghost use Rattle.c_lang.specs.Names.{behind};
 ghost use Rattle.top_call.specs.Numbers as numbers;
 ghost use Rattle.top_call.specs.Words as spec;
@@ -57,10 +57,17 @@ fn values_of<'a>(words: &'a [String], option: &str) -> Chosen<'a>
     values
 }
 
-fn file_in<'a>(word: &'a str) -> Option<&'a str>
-    ensures { option_map seen_text result ≡ spec.file_in word.entry.now }
+// Adds a word that is no option.
+#[tactic(auto, using(crate::proofs::OptionWordLemmas::files))]
+fn add_file<'a>(files: &mut Vec<&'a str>, word: &'a str) -> Result<(), AllocError>
+    ensures { OnOk result (map seen_text files.new.items ≡
+        spec.added (map seen_text files.old.items) (spec.file_in word.entry.now)) }
 {
-    if is_option(word) { None } else { Some(word) }
+    if is_option(word) {
+        return Ok(());
+    }
+    files.push(word)?;
+    Ok(())
 }
 
 /// The words that are no options. The only error is want of memory.
@@ -72,9 +79,7 @@ pub(crate) fn files_in<'a>(
 {
     let mut files = Vec::new(alloc);
     for word in words {
-        if let Some(file) = file_in(word.as_str()) {
-            files.push(file)?;
-        }
+        add_file(&mut files, word.as_str())?;
     }
     Ok(files)
 }

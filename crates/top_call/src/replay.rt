@@ -46,9 +46,8 @@ fn reply_to_texts(
     ensures reply { IfOk result (λ reply. Replays (seen_replay replay.now) (seen_texts texts.now) (seen_reply reply)) }
     ensures deep { IsErrOf result RunError.Deep → ReplaysTooDeep (seen_replay replay.now) (seen_texts texts.now) }
 {
-    let listed = replay.points.as_deref();
-    match accept(alloc, &texts.old, &texts.new, &texts.xform, listed) {
-        Ok(world) => reply_of_world(alloc, replay, &world),
+    match accept(alloc, &texts.old, &texts.new, &texts.xform, replay.listed()) {
+        Ok(world) => reply_of_world(alloc, replay, world.get()),
         Err(Fail::Refused(refusal)) => Ok(refuse(alloc, &refusal)?),
         Err(Fail::NoMemory) => Err(RunError::NoMemory),
     }

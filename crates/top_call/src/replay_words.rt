@@ -2,8 +2,9 @@
 
 ghost use Rattle.std.specs.Prelude.{◌≡◌, IfOk, map, option_map, string_bytes};
 ghost use Rattle.std.specs.List.{list_all};
+ghost use Rattle.std.specs.Option.{option_copied};
 ghost use Rattle.top_call.specs.Words as spec;
-ghost use Rattle.top_call.specs.Seen.{seen_replay, seen_text, seen_update_files};
+ghost use Rattle.top_call.specs.Seen.{seen_replay, seen_update_files};
 
 use crate::option_words::{answers_given, files_in, is_replay_word, points_given, steps_given};
 use crate::words::UpdateFiles;
@@ -17,6 +18,18 @@ pub(crate) struct ReplayRequest<'a> {
     pub points: Option<Vec<u32>>,
     pub answers: Vec<i32>,
     pub steps: u32,
+}
+
+impl ReplayRequest<'_> {
+    /// The points that may update, where they are listed.
+    pub fn listed(&self) -> Option<&[u32]>
+        ensures { option_copied result ≡ (seen_replay self.now).points }
+    {
+        match &self.points {
+            Some(points) => Some(points.as_slice()),
+            None => None,
+        }
+    }
 }
 
 fn are_replay_words(words: &[String]) -> bool

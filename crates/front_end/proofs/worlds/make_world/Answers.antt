@@ -34,8 +34,8 @@ returns-in_err-xform c = λ ts typed parses.
     (behind (has_points listed ts) (has_transformer ts ∷ []) _ (old.program, typed.versions.old, rw c.get.ensures at points)
     (transformer_refused listed ts [] old.program new.program c.args.xform _ typed.versions parses refused))
 
-pub new-requires-2 : goal.new-requires-2
-new-requires-2 c =
+pub new-world-requires : goal.new-world-requires
+new-world-requires c =
     let listed = option_copied c.args.listed in
     let old = c.args.versions.old in
     let new = c.args.versions.new in

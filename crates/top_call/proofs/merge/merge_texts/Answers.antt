@@ -13,21 +13,24 @@ pub returns-in-Err-check_names : goal.returns-in-Err-check_names
 returns-in-Err-check_names c =
     let texts = seen_texts c.args.texts.now in
     let h = c.in_ok-programs.ensures in
-    refused-behind (size_conditions texts) (form_conditions texts ++ name_conditions texts) _ c.in_default.ensures
+    let sizes = rw (c.deref.ensures.value, c.deref-2.ensures.value, c.deref-3.ensures.value) at c.in_default.ensures in
+    refused-behind (size_conditions texts) (form_conditions texts ++ name_conditions texts) _ sizes
     (refused-behind (form_conditions texts) (name_conditions texts) _ ((_, h.old), ((_, h.new), ((_, h.xform), tt)))
     (names-refused texts _ _ _ h.old h.new h.xform _ c.in-Err-check_names.ensures))
 
 pub write_merge-requires : goal.write_merge-requires
 write_merge-requires c =
     let h = c.in_ok-programs.ensures in
-    are-first (seen_texts c.args.texts.now) _ _ _ h.old h.new h.xform c.in_default.ensures c.in_default-check_names.ensures
+    let sizes = rw (c.deref.ensures.value, c.deref-2.ensures.value, c.deref-3.ensures.value) at c.in_default.ensures in
+    are-first (seen_texts c.args.texts.now) _ _ _ h.old h.new h.xform sizes c.in_default-check_names.ensures
 
 pub returns : goal.returns
 returns c =
     let texts = seen_texts c.args.texts.now in
     let h = c.in_ok-programs.ensures in
+    let sizes = rw (c.deref.ensures.value, c.deref-2.ensures.value, c.deref-3.ensures.value) at c.in_default.ensures in
     let w = c.in_ok-write_merge.ensures in (
-      all-append (size_conditions texts) (form_conditions texts ++ name_conditions texts) c.in_default.ensures
+      all-append (size_conditions texts) (form_conditions texts ++ name_conditions texts) sizes
           (all-append (form_conditions texts) (name_conditions texts) ((_, h.old), ((_, h.new), ((_, h.xform), tt)))
           (names-hold texts _ _ _ h.old h.new h.xform c.in_default-check_names.ensures)),
       record {

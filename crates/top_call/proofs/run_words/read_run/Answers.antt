@@ -7,5 +7,5 @@ returns-then-not-are_run_words c = sym (unknown-word c.args.words.now (sym c.are
 
 pub returns-in-Some-2 : goal.returns-in-Some-2
 returns-in-Some-2 c =
-    sym (run-is c.args.words.now c.in-One.file.now c.in-Some-2.answers.items c.in-Some.steps (sym c.are_run_words.ensures ∙ c.if-not-are_run_words.false)
-    c.in-One.ensures (sym (rw c.in-Some-2.is at c.in_ok-answers.ensures)) (sym c.in-Some.ensures))
+    sym (run-is c.args.words.now c.in-Some.file.now c.in-Some-2.answers.items c.in-Some-steps_given.steps (sym c.are_run_words.ensures ∙ c.if-not-are_run_words.false)
+    (sym (rw c.in-Some.is at c.in_ok-file.ensures)) (sym (rw c.in-Some-2.is at c.in_ok-answers.ensures)) (sym c.in-Some-steps_given.ensures))

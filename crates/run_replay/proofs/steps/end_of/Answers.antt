@@ -1,7 +1,7 @@
 use Rattle.std.proofs.Common.{sym, ap, subst, ◌∙◌, [], ◌∷◌, ◌++◌}
 use Rattle.run_replay.specs.Closes.{IsEnd}
 use Rattle.run_replay.proofs.EndLaws.{last_is}
-use Rattle.run_replay.proofs.plain.end_of.Goals as goal
+use Rattle.run_replay.proofs.steps.end_of.Goals as goal
 
 pub returns-in-Some : goal.returns-in-Some
 returns-in-Some c =
