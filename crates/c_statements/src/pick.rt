@@ -14,7 +14,7 @@ use c_expressions::right::call_at;
 use c_lang::{Dest, Name, Pos, Stmt, Unit};
 use c_lexer::{Token, Word, keyword, punctuator};
 use sqlite_items::Boxed;
-use std::alloc::{AllocError, Global};
+use std::alloc::Global;
 
 /// One call of a pick, as a statement.
 #[derive(Drop)]
