@@ -4,17 +4,18 @@ ghost use Rattle.std.specs.Prelude.{◌≡◌, ◌≤◌, ◌<◌, ◌+◌, ◌-
 ghost use Rattle.c_expressions.specs.Code.ParseSteps.{Gives};
 ghost use Rattle.c_grammar.specs.Scopes as scopes;
 ghost use Rattle.c_statements.specs.Code.StatementReading as spec;
+ghost use Rattle.c_expressions.specs.Code.Seen.{seen_called};
 ghost use Rattle.c_statements.specs.Code.Seen.{seen_one, seen_read};
 
 use crate::scope::is_client;
 use crate::simple::{Parsed, call_to, only};
 use c_expressions::front::{after, after_key, name_at, skip, skip_key};
 use c_expressions::parse_error::ParseError;
-use c_expressions::right::call_at;
+use c_expressions::right::{Called, call_at};
 use c_lang::{Dest, Name, Pos, Stmt, Unit};
 use c_lexer::{Token, Word, keyword, punctuator};
 use sqlite_items::Boxed;
-use std::alloc::{AllocError, Global};
+use std::alloc::Global;
 
 /// One call of a pick, as a statement.
 #[derive(Drop)]
@@ -22,6 +23,20 @@ pub struct One<'a> {
     pub stmt: Boxed<Stmt>,
     pub height: u32,
     pub rest: &'a [Token],
+}
+
+fn call_behind<'a>(
+    alloc: Global,
+    below: u32,
+    callee: &Name,
+    tokens: &'a [Token],
+) -> Result<Called<'a>, ParseError>
+    ensures read { Gives seen_called result (spec.call_behind below callee.now tokens.now) }
+    ensures height { IfOk result (λ x. x.height ≤ below) }
+    ensures rest { IfOk result (λ x. length x.rest.now < length tokens.now) }
+{
+    let inside = after(punctuator::ROUND_OPEN, tokens)?;
+    call_at(alloc, below, callee, inside)
 }
 
 // A call behind its name, up to the semicolon.
@@ -38,8 +53,7 @@ fn end_one<'a>(
     ensures height { IfOk result (λ x. x.height ≤ below + 1) }
     ensures rest { IfOk result (λ x. length x.rest.now < length tokens.now) }
 {
-    let inside = after(punctuator::ROUND_OPEN, tokens)?;
-    let called = call_at(alloc, below, callee, inside)?;
+    let called = call_behind(alloc, below, callee, tokens)?;
     let rest = after(punctuator::SEMICOLON, called.rest)?;
     Ok(One {
         stmt: Boxed::new(alloc, call_to(pos, dest, called.call))?,
