@@ -2,18 +2,21 @@
 
 ghost use Rattle.std.specs.Prelude.{◌≡◌, IfOk, List, ℕ};
 ghost use Rattle.c_lang.specs.Programs.{global_named, initial_value, initial_elements, shape_value, shape_elements};
-ghost use Rattle.plain_run.specs.Code.Names.{seen_values, seen_arrays};
+ghost use Rattle.plain_run.specs.Code.Names.{plain_function, seen_values, seen_arrays};
 ghost use Rattle.plain_run.specs.Values.{seen_value};
 
-use crate::names::{Arrays, Values};
+use crate::names::Values;
 use crate::value::Value;
-use c_lang::{GlobalVar, Shape};
+use c_lang::{GlobalVar, Name, Shape};
 use indexmap::IndexMap;
 use std::alloc::{AllocError, Global};
 
+/// The elements of arrays.
+pub type Arrays<'p> = IndexMap<&'p Name, Vec<i32>>;
+
 // 0 for an array.
-fn shape_value(shape: &Shape) -> Value<'_>
-    ensures { seen_value result ≡ shape_value (λ f. f) shape.now }
+fn shape_value(shape: &Shape) -> Value<&Name>
+    ensures { seen_value plain_function result ≡ shape_value (λ f. f) shape.now }
 {
     match shape {
         Shape::Int(number) => Value::Num(*number),
@@ -33,9 +36,9 @@ fn shape_elements(alloc: Global, shape: &Shape) -> Result<Vec<i32>, AllocError>
 }
 
 /// The values of scalars and pointers.
-pub(crate) fn initial_values(alloc: Global, globals: &[GlobalVar]) -> Result<Values<'_>, AllocError>
+pub(crate) fn initial_values(alloc: Global, globals: &[GlobalVar]) -> Result<Values<'_, &Name>, AllocError>
     ensures { IfOk result (λ values. (x : List ℕ) →
-        seen_values values.entries x ≡ initial_value (λ f. f) (global_named globals.now x)) }
+        seen_values plain_function values.entries x ≡ initial_value (λ f. f) (global_named globals.now x)) }
 {
     let mut values = IndexMap::new(alloc);
     let mut left = globals.len();
