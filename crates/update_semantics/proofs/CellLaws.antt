@@ -13,13 +13,13 @@ use Rattle.plain_run.proofs.StoreLaws.{all_names}
 use Rattle.plain_run.proofs.TableLaws.{same_name, seen-insert, at_test, found-set, from_true, IsFilled-more}
 use Rattle.version_names.specs.Parts.{version_of}
 use Rattle.version_names.specs.declared.part.Version.{Version}
-use Rattle.update_semantics.specs.Code.Cells.{Values, Arrays, value_or_zero, seen_values, origin_of, HasValuesOf, HasArraysOf, StoresElement}
+use Rattle.update_semantics.specs.Code.Cells.{Values, Arrays, value_or_zero, seen_values, origin_of, HasValuesOf, HasArraysOf, SetsIn}
 use Rattle.update_semantics.specs.Code.Linked.{function_at}
-use Rattle.update_semantics.specs.Code.Values.{seen_value}
+use Rattle.env_try.specs.Values.{seen_value}
 use Rattle.update_semantics.specs.UpdatingRun.{function_meaning}
 use Rattle.update_semantics.specs.Worlds.{World, world_of}
 use Rattle.update_semantics.specs.declared.linked.Function.{Function}
-use Rattle.update_semantics.specs.declared.value.Value.{Value}
+use Rattle.env_try.specs.declared.value.Value.{Value}
 
 pub HasValues-more : (w : World) (u : Version) (old new : Values) (k : Bor Bytes) (v : Value Function) (g : GlobalVar) (globals : List GlobalVar)
     → new ≡ insert_entry same_name old k v → k.now ≡ g.name
@@ -50,8 +50,8 @@ module _ (old new : Arrays) (a : Bytes) (elements elements' : Vec ℤ Global) (t
   as_before x true p same = same ∙ sym array_there ∙ ap (seen_arrays old) (from_true a x p)
   as_before x false p same = refl
 
-  pub stores_element : (at z : ℤ) (written : Bool) → elements_with elements.items at z ≡ (if written then Some elements'.items else None)
-      → (written ≡ false → elements'.items ≡ elements.items) → StoresElement (seen_arrays old) a at z written (seen_arrays new)
-  stores_element at z true within outside = (elements'.items, ap (λ r. elements_with r at z) array_there ∙ within, arrays-set)
-  stores_element at z false within outside =
+  pub sets_in : (at z : ℤ) (written : Bool) → elements_with elements.items at z ≡ (if written then Some elements'.items else None)
+      → (written ≡ false → elements'.items ≡ elements.items) → SetsIn (seen_arrays old) a at z written (seen_arrays new)
+  sets_in at z true within outside = (elements'.items, ap (λ r. elements_with r at z) array_there ∙ within, arrays-set)
+  sets_in at z false within outside =
       (ap (λ r. elements_with r at z) array_there ∙ within, arrays-set ∙ all_names _ _ (λ x. as_before x (bytes_eq a x) refl (outside refl)))

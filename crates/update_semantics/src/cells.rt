@@ -5,15 +5,15 @@ ghost use Rattle.c_lang.specs.Programs.{shape_value, shape_elements};
 ghost use Rattle.c_lang.specs.Values.{Num};
 ghost use Rattle.plain_run.specs.Steps.{updated, elements_with};
 ghost use Rattle.version_names.specs.Parts.{version_of};
-ghost use Rattle.update_semantics.specs.Code.Cells.{values_of, arrays_of, origin_of, HasValues, HasArrays, StoresElement};
+ghost use Rattle.update_semantics.specs.Code.Cells.{values_of, arrays_of, origin_of, HasValues, HasArrays, SetsIn};
 ghost use Rattle.update_semantics.specs.Code.Linked.{function_at, provenance_of};
-ghost use Rattle.update_semantics.specs.Code.Values.{seen_value};
+ghost use Rattle.env_try.specs.Values.{seen_value};
 ghost use Rattle.update_semantics.specs.UpdatingRun.{function_meaning};
 ghost use Rattle.update_semantics.specs.Worlds.{world_of};
 
 use crate::linked::{Function, Provenance};
 use crate::meanings::Meanings;
-use crate::value::Value;
+use env_try::Value;
 use c_lang::Shape;
 use indexmap::IndexMap;
 use std::alloc::{AllocError, Global};
@@ -179,7 +179,7 @@ impl<'p> Cells<'p> {
     /// Writes an element of the array with this name, where the index is within the bounds, and says
     /// whether it is. It takes no memory.
     pub fn set_element(&mut self, name: &'p [u8], at: i32, element: i32) -> bool
-        ensures stores { StoresElement (arrays_of self.old) name.entry.now at element result (arrays_of self.new) }
+        ensures stores { SetsIn (arrays_of self.old) name.entry.now at element result (arrays_of self.new) }
         ensures values { values_of self.new ≡ values_of self.old }
     {
         match self.arrays.get_mut(&name) {

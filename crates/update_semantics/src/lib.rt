@@ -7,10 +7,8 @@ mod environment;
 mod linked;
 mod meanings;
 mod state;
-mod value;
 mod world;
 
 pub use environment::UpdatedNames;
 pub use linked::{Function, Linked, Provenance};
-pub use value::Value;
 pub use world::World;
