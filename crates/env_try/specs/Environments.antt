@@ -10,6 +10,8 @@ use Rattle.c_lang.specs.declared.event.Event.TheVariants as event
 use Rattle.c_lang.specs.declared.program.Func.{Func}
 use Rattle.c_lang.specs.declared.stmt.Dest.TheVariants.{Nowhere}
 use Rattle.c_lang.specs.declared.stmt.Stmt.{Stmt, out-Stmt}
+use Rattle.env_try.specs.declared.environment.Callee.{Callee}
+use Rattle.env_try.specs.declared.environment.Callee.TheVariants.{Known, Named}
 use Rattle.env_try.specs.declared.environment.Decision.{Decision}
 use Rattle.env_try.specs.declared.environment.Decision.TheVariants as decision
 use Rattle.env_try.specs.declared.environment.Definition.{Definition}
@@ -34,6 +36,11 @@ func_or_none (Some f) = f.now
 
 abbrev pub seen_definition : {Y O : Type 0} → (Y → O) → Definition Y → O × Func
 seen_definition see d = (see d.origin, func_or_none d.func)
+
+-- `code` says what a name stands for
+abbrev pub seen_callee : {X F : Type 0} → (X → F) → (Bytes → F) → Callee X → F
+seen_callee see code (Known f) = see f
+seen_callee see code (Named n) = code n.now
 
 -- within the bounds, the array has the element then; else nothing changes
 abbrev pub SetsElement : {F G O : Type 0} → Access F G O → O → G → Bytes → ℤ → ℤ → Bool → G → Type 0

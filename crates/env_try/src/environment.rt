@@ -13,6 +13,13 @@ pub struct Definition<'p, O> {
     pub func: Option<&'p Func>,
 }
 
+/// A function in an expression: as a value, or still by its name.
+#[derive(Clone, Copy)]
+pub enum Callee<'a, F> {
+    Known(F),
+    Named(&'a Name),
+}
+
 /// What is done at a point, a force or a pick.
 #[derive(Clone, Copy)]
 pub enum Decision<'p> {
@@ -33,12 +40,13 @@ pub enum Decision<'p> {
     Next(&'p Stmt),
 }
 
-/// What all frames of a run share, and what their names stand for. Contracts see `state`, which
-/// changes, and `rules`, which don't.
+/// What names stand for. Contracts see the state that all frames share, and the rules, which say what
+/// is read and written there.
 ///
-/// A name's meaning may depend on where the frame's body was written, which is its origin.
-pub trait Environment<'p>: Drop {
-    ghost use Rattle.env_try.specs.Environments.{Decides, Rules, Sees, SetsElement, seen_definition};
+/// A name's meaning may depend on where the frame's body was written, which is its origin. The trait
+/// is apart from `Environment`, since a recursive function takes no bound that names a lifetime.
+pub trait Look: Drop {
+    ghost use Rattle.env_try.specs.Environments.{Rules, Sees, seen_callee};
     ghost use Rattle.env_try.specs.Values.{seen_value};
 
     /// A function as a value.
@@ -59,36 +67,49 @@ pub trait Environment<'p>: Drop {
     ghost state: { Self → State };
 
     /// The value of a name that is no local.
-    fn value(&self, origin: Self::Origin, name: &'p Name) -> Value<Self::Function>
+    fn value(&self, origin: Self::Origin, name: &Name) -> Value<Self::Function>
         ensures { seen_value seen.function result ≡
-            (rules self.now).access.value (seen.origin origin) (state self.now) name.entry.now };
+            (rules self.now).access.value (seen.origin origin) (state self.now) name.now };
 
     /// The elements of an array.
-    fn elements(&self, origin: Self::Origin, array: &'p Name) -> &[i32]
+    fn elements(&self, origin: Self::Origin, array: &Name) -> &[i32]
         ensures { result.now ≡
-            (rules self.now).access.elements (seen.origin origin) (state self.now) array.entry.now };
+            (rules self.now).access.elements (seen.origin origin) (state self.now) array.now };
+
+    /// Whether both are the same function.
+    fn same(
+        &self,
+        origin: Self::Origin,
+        left: Callee<'_, Self::Function>,
+        right: Callee<'_, Self::Function>,
+    ) -> bool
+        ensures { result ≡ (rules self.now).access.same
+            (seen_callee seen.function ((rules self.now).access.code (seen.origin origin) (state self.now)) left.entry)
+            (seen_callee seen.function ((rules self.now).access.code (seen.origin origin) (state self.now)) right.entry) };
+}
+
+/// What all frames of a run share.
+pub trait Environment<'p>: Look {
+    ghost use Rattle.env_try.specs.Environments.{Decides, SetsElement, seen_definition};
+    ghost use Rattle.env_try.specs.Values.{seen_value};
 
     /// The function that a name stands for.
     fn code(&self, origin: Self::Origin, name: &'p Name) -> Self::Function
-        ensures { seen.function result ≡
-            (rules self.now).access.code (seen.origin origin) (state self.now) name.entry.now };
-
-    /// Whether both are the same function.
-    fn same(&self, left: Self::Function, right: Self::Function) -> bool
-        ensures { result ≡ (rules self.now).access.same (seen.function left) (seen.function right) };
+        ensures { Self.seen.function result ≡
+            (Self.rules self.now).access.code (Self.seen.origin origin) (Self.state self.now) name.entry.now };
 
     /// The code that a function has now.
     fn enter(&self, function: Self::Function) -> Definition<'p, Self::Origin>
-        ensures { seen_definition seen.origin result ≡
-            (rules self.now).access.enter (state self.now) (seen.function function) };
+        ensures { seen_definition Self.seen.origin result ≡
+            (Self.rules self.now).access.enter (Self.state self.now) (Self.seen.function function) };
 
     /// What is done at a point, a force or a pick.
     fn decide(&self, origin: Self::Origin, statement: &'p Stmt) -> Decision<'p>
-        ensures { Decides (rules self.now) (seen.origin origin) (state self.now) statement.entry.now result };
+        ensures { Decides (Self.rules self.now) (Self.seen.origin origin) (Self.state self.now) statement.entry.now result };
 
     /// The code that an update runs.
     fn transformer(&self) -> Definition<'p, Self::Origin>
-        ensures { seen_definition seen.origin result ≡ (rules self.now).transformer };
+        ensures { seen_definition Self.seen.origin result ≡ (Self.rules self.now).transformer };
 
     /// Gives a name that is no local a value. The only error is want of memory, and then nothing
     /// changes.
@@ -98,10 +119,10 @@ pub trait Environment<'p>: Drop {
         name: &'p Name,
         value: Value<Self::Function>,
     ) -> Result<(), AllocError>
-        ensures rules { rules self.new ≡ rules self.old }
-        ensures put { OnOk result (state self.new ≡ (rules self.old).access.put
-            (seen.origin origin) name.entry.now (seen_value seen.function value) (state self.old)) }
-        ensures kept { OnErr result (state self.new ≡ state self.old) };
+        ensures rules { Self.rules self.new ≡ Self.rules self.old }
+        ensures put { OnOk result (Self.state self.new ≡ (Self.rules self.old).access.put
+            (Self.seen.origin origin) name.entry.now (seen_value Self.seen.function value) (Self.state self.old)) }
+        ensures kept { OnErr result (Self.state self.new ≡ Self.state self.old) };
 
     /// Writes an element where the index is within the array's bounds, and says whether it is.
     fn set_element(
@@ -111,14 +132,14 @@ pub trait Environment<'p>: Drop {
         at: i32,
         element: i32,
     ) -> bool
-        ensures rules { rules self.new ≡ rules self.old }
-        ensures set { SetsElement (rules self.old).access (seen.origin origin)
-            (state self.old) array.entry.now at element result (state self.new) };
+        ensures rules { Self.rules self.new ≡ Self.rules self.old }
+        ensures set { SetsElement (Self.rules self.old).access (Self.seen.origin origin)
+            (Self.state self.old) array.entry.now at element result (Self.state self.new) };
 
     /// Does to the state what an update does. The only error is want of memory, and then nothing
     /// changes.
     fn update(&mut self, alloc: Global) -> Result<(), AllocError>
-        ensures rules { rules self.new ≡ rules self.old }
-        ensures update { OnOk result (state self.new ≡ (rules self.old).update (state self.old)) }
-        ensures kept { OnErr result (state self.new ≡ state self.old) };
+        ensures rules { Self.rules self.new ≡ Self.rules self.old }
+        ensures update { OnOk result (Self.state self.new ≡ (Self.rules self.old).update (Self.state self.old)) }
+        ensures kept { OnErr result (Self.state self.new ≡ Self.state self.old) };
 }

@@ -4,5 +4,5 @@
 mod environment;
 mod value;
 
-pub use environment::{Decision, Definition, Environment};
+pub use environment::{Callee, Decision, Definition, Environment, Look};
 pub use value::Value;

@@ -147,20 +147,20 @@ impl<'p> Cells<'p> {
     }
 
     /// The value of the cell with this name, and 0 where there is none. It takes no memory.
-    pub fn value(&self, name: &'p [u8]) -> Value<Function<'p>>
-        ensures { seen_value function_at result ≡ values_of self.now name.entry.now }
+    pub fn value(&self, name: &[u8]) -> Value<Function<'p>>
+        ensures { seen_value function_at result ≡ values_of self.now name.now }
     {
-        match self.values.get(&name) {
+        match self.values.get(name) {
             Some(value) => *value,
             None => Value::Num(0),
         }
     }
 
     /// The elements of the array with this name, and none where there is none. It takes no memory.
-    pub fn elements(&self, name: &'p [u8]) -> &[i32]
-        ensures { result.now ≡ arrays_of self.now name.entry.now }
+    pub fn elements(&self, name: &[u8]) -> &[i32]
+        ensures { result.now ≡ arrays_of self.now name.now }
     {
-        match self.arrays.get(&name) {
+        match self.arrays.get(name) {
             Some(elements) => elements.as_slice(),
             None => &[],
         }
@@ -182,7 +182,7 @@ impl<'p> Cells<'p> {
         ensures stores { SetsIn (arrays_of self.old) name.entry.now at element result (arrays_of self.new) }
         ensures values { values_of self.new ≡ values_of self.old }
     {
-        match self.arrays.get_mut(&name) {
+        match self.arrays.get_mut(name) {
             Some(elements) => set_element(elements, at, element),
             None => false,
         }

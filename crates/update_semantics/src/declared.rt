@@ -90,19 +90,19 @@ impl<'p> Declared<'p> {
     }
 
     /// The function with this name. It takes no memory.
-    pub fn func(&self, name: &'p [u8]) -> Option<&'p Func>
-        ensures { option_copied result ≡ func_named self.now.funcs name.entry.now }
+    pub fn func(&self, name: &[u8]) -> Option<&'p Func>
+        ensures { option_copied result ≡ func_named self.now.funcs name.now }
     {
-        match self.funcs.get(&name) {
+        match self.funcs.get(name) {
             Some(func) => Some(*func),
             None => None,
         }
     }
 
-    fn global(&self, name: &'p [u8]) -> Option<&'p GlobalVar>
-        ensures { option_copied result ≡ global_named self.now.globals name.entry.now }
+    fn global(&self, name: &[u8]) -> Option<&'p GlobalVar>
+        ensures { option_copied result ≡ global_named self.now.globals name.now }
     {
-        match self.globals.get(&name) {
+        match self.globals.get(name) {
             Some(global) => Some(*global),
             None => None,
         }
@@ -110,8 +110,8 @@ impl<'p> Declared<'p> {
 
     /// The name of the global or the function that has these bytes as its name, where the program
     /// declares it. It takes no memory.
-    pub fn name(&self, sort: Sort2, name: &'p [u8]) -> Option<&'p Name>
-        ensures { option_copied result ≡ declared_name self.now sort name.entry.now }
+    pub fn name(&self, sort: Sort2, name: &[u8]) -> Option<&'p Name>
+        ensures { option_copied result ≡ declared_name self.now sort name.now }
     {
         match sort {
             Sort2::Cell => match self.global(name) {

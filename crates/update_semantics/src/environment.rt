@@ -1,13 +1,14 @@
 //! What names stand for in an updating run, and what they hold.
 
 ghost use Rattle.std.specs.Prelude.{◌≡◌, ◌&&◌, IfOk, OnOk, OnErr, None};
+ghost use Rattle.version_names.specs.Home.{same_linked};
 ghost use Rattle.version_names.specs.Provenance.{may_update};
 ghost use Rattle.version_names.specs.Version.{is_old};
 ghost use Rattle.update_semantics.specs.Code.Decisions.{Picks};
 ghost use Rattle.update_semantics.specs.Code.Environments.{world_in, state_in, rules_in};
 ghost use Rattle.update_semantics.specs.Code.Linked.{function_at, provenance_of};
 ghost use Rattle.env_try.specs.Values.{seen_value};
-ghost use Rattle.env_try.specs.Environments.{SetsElement, seen_definition};
+ghost use Rattle.env_try.specs.Environments.{SetsElement, seen_callee, seen_definition};
 ghost use Rattle.update_semantics.specs.UpdatingRun.{first_state, swapped_state, entry_code};
 ghost use Rattle.update_semantics.specs.Worlds.{world_of};
 
@@ -16,7 +17,7 @@ use crate::meanings::Meanings;
 use crate::state::State;
 use crate::world::World;
 use c_lang::{Name, Stmt};
-use env_try::{Decision, Definition, Environment, Value};
+use env_try::{Callee, Decision, Definition, Environment, Look, Value};
 use std::alloc::{AllocError, Global};
 use version_names::Version;
 
@@ -99,9 +100,20 @@ impl<'p> UpdatedNames<'p> {
         };
         may_update && self.is_old() && self.meanings.world().points().permits(k)
     }
+
+    // Whether a function is the same as one in an expression.
+    fn is_same(&self, origin: Provenance, left: Function<'_>, right: Callee<'_, Function<'p>>) -> bool
+        ensures { result ≡ same_linked (function_at left.entry)
+            (seen_callee function_at ((rules_in self.now).access.code (provenance_of origin) (state_in self.now)) right.entry) }
+    {
+        match right {
+            Callee::Known(right) => left.same(right),
+            Callee::Named(right) => left.same(self.meanings.function(origin, right)),
+        }
+    }
 }
 
-impl<'p> Environment<'p> for UpdatedNames<'p> {
+impl<'p> Look for UpdatedNames<'p> {
     ghost use Rattle.version_names.specs.Home.{Linked};
     ghost use Rattle.version_names.specs.Provenance as origins;
     ghost use Rattle.update_semantics.specs.UpdatingRun as run;
@@ -123,20 +135,34 @@ impl<'p> Environment<'p> for UpdatedNames<'p> {
 
     ghost state = { state_in };
 
-    fn value(&self, origin: Provenance, name: &'p Name) -> Value<Function<'p>> {
+    fn value(&self, origin: Provenance, name: &Name) -> Value<Function<'p>> {
         self.state.value(self.meanings.cell(origin, name))
     }
 
-    fn elements(&self, origin: Provenance, array: &'p Name) -> &[i32] {
+    fn elements(&self, origin: Provenance, array: &Name) -> &[i32] {
         self.state.elements(self.meanings.cell(origin, array))
     }
 
+    fn same(
+        &self,
+        origin: Provenance,
+        left: Callee<'_, Function<'p>>,
+        right: Callee<'_, Function<'p>>,
+    ) -> bool
+        ensures { result ≡ (rules_in self.now).access.same
+            (seen_callee function_at ((rules_in self.now).access.code (provenance_of origin) (state_in self.now)) left.entry)
+            (seen_callee function_at ((rules_in self.now).access.code (provenance_of origin) (state_in self.now)) right.entry) }
+    {
+        match left {
+            Callee::Known(left) => self.is_same(origin, left, right),
+            Callee::Named(left) => self.is_same(origin, self.meanings.function(origin, left), right),
+        }
+    }
+}
+
+impl<'p> Environment<'p> for UpdatedNames<'p> {
     fn code(&self, origin: Provenance, name: &'p Name) -> Function<'p> {
         self.meanings.function(origin, name)
-    }
-
-    fn same(&self, left: Function<'p>, right: Function<'p>) -> bool {
-        left.same(right)
     }
 
     fn enter(&self, function: Function<'p>) -> Definition<'p, Provenance> {

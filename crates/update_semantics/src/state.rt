@@ -65,14 +65,14 @@ impl<'p> State<'p> {
     }
 
     /// The value of a cell. It takes no memory.
-    pub fn value(&self, cell: Linked<'p>) -> Value<Function<'p>>
+    pub fn value(&self, cell: Linked<'_>) -> Value<Function<'p>>
         ensures { seen_value function_at result ≡ (state_of self.now).values (home_at cell.entry.part) cell.entry.name.now }
     {
         self.cells(cell.part).value(cell.name)
     }
 
     /// The elements of a cell. It takes no memory.
-    pub fn elements(&self, cell: Linked<'p>) -> &[i32]
+    pub fn elements(&self, cell: Linked<'_>) -> &[i32]
         ensures { result.now ≡ (state_of self.now).arrays (home_at cell.entry.part) cell.entry.name.now }
     {
         self.cells(cell.part).elements(cell.name)
