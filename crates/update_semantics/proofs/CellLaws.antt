@@ -15,11 +15,11 @@ use Rattle.version_names.specs.Parts.{version_of}
 use Rattle.version_names.specs.declared.part.Version.{Version}
 use Rattle.update_semantics.specs.Code.Cells.{Values, Arrays, value_or_zero, seen_values, origin_of, HasValuesOf, HasArraysOf, SetsIn}
 use Rattle.update_semantics.specs.Code.Linked.{function_at}
-use Rattle.env_try.specs.Values.{seen_value}
+use Rattle.plain_run.specs.Values.{seen_value}
 use Rattle.update_semantics.specs.UpdatingRun.{function_meaning}
 use Rattle.update_semantics.specs.Worlds.{World, world_of}
 use Rattle.update_semantics.specs.declared.linked.Function.{Function}
-use Rattle.env_try.specs.declared.value.Value.{Value}
+use Rattle.plain_run.specs.declared.value.Value.{Value}
 
 pub HasValues-more : (w : World) (u : Version) (old new : Values) (k : Bor Bytes) (v : Value Function) (g : GlobalVar) (globals : List GlobalVar)
     → new ≡ insert_entry same_name old k v → k.now ≡ g.name

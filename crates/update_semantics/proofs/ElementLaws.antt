@@ -1,7 +1,7 @@
 -- An element of the cell that a name stands for is written.
 use Rattle.std.proofs.Common.{ℤ, Bool, true, false}
 use Rattle.c_lang.specs.Names.{Bytes}
-use Rattle.env_try.specs.Environments.{SetsElement}
+use Rattle.plain_run.specs.Environments.{SetsElement}
 use Rattle.version_names.specs.Provenance.{Provenance}
 use Rattle.update_semantics.specs.Code.Cells.{SetsCell}
 use Rattle.update_semantics.specs.UpdatingRun.{World, State, cell_meaning, updating_access}

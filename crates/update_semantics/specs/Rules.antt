@@ -1,6 +1,6 @@
 -- The rules by which runs of a world go on.
 use Rattle.std.specs.Prelude.{codes}
-use Rattle.env_try.specs.Environments.{Rules}
+use Rattle.plain_run.specs.Environments.{Rules}
 use Rattle.version_names.specs.Home.{Linked, Xform}
 use Rattle.version_names.specs.Provenance.{Provenance}
 use Rattle.version_names.specs.Version.{New}

@@ -7,13 +7,13 @@ ghost use Rattle.plain_run.specs.Steps.{updated, elements_with};
 ghost use Rattle.version_names.specs.Parts.{version_of};
 ghost use Rattle.update_semantics.specs.Code.Cells.{values_of, arrays_of, origin_of, HasValues, HasArrays, SetsIn};
 ghost use Rattle.update_semantics.specs.Code.Linked.{function_at, provenance_of};
-ghost use Rattle.env_try.specs.Values.{seen_value};
+ghost use Rattle.plain_run.specs.Values.{seen_value};
 ghost use Rattle.update_semantics.specs.UpdatingRun.{function_meaning};
 ghost use Rattle.update_semantics.specs.Worlds.{world_of};
 
 use crate::linked::{Function, Provenance};
 use crate::meanings::Meanings;
-use env_try::Value;
+use plain_run::Value;
 use c_lang::Shape;
 use indexmap::IndexMap;
 use std::alloc::{AllocError, Global};

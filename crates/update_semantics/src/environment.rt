@@ -7,8 +7,8 @@ ghost use Rattle.version_names.specs.Version.{is_old};
 ghost use Rattle.update_semantics.specs.Code.Decisions.{Picks};
 ghost use Rattle.update_semantics.specs.Code.Environments.{world_in, state_in, rules_in};
 ghost use Rattle.update_semantics.specs.Code.Linked.{function_at, provenance_of};
-ghost use Rattle.env_try.specs.Values.{seen_value};
-ghost use Rattle.env_try.specs.Environments.{SetsElement, seen_callee, seen_definition};
+ghost use Rattle.plain_run.specs.Values.{seen_value};
+ghost use Rattle.plain_run.specs.Environments.{SetsElement, seen_callee, seen_definition};
 ghost use Rattle.update_semantics.specs.UpdatingRun.{first_state, swapped_state, entry_code};
 ghost use Rattle.update_semantics.specs.Worlds.{world_of};
 
@@ -17,7 +17,7 @@ use crate::meanings::Meanings;
 use crate::state::State;
 use crate::world::World;
 use c_lang::{Name, Stmt};
-use env_try::{Callee, Decision, Definition, Environment, Look, Value};
+use plain_run::{Callee, Decision, Definition, Environment, Look, Value};
 use std::alloc::{AllocError, Global};
 use version_names::Version;
 

@@ -7,13 +7,13 @@ ghost use Rattle.version_names.specs.Parts.{version_of};
 ghost use Rattle.version_names.specs.Home.{Both, same_home};
 ghost use Rattle.version_names.specs.Version as versions;
 ghost use Rattle.update_semantics.specs.Code.Linked.{home_at, linked_at, function_at, provenance_of, home_in, declared_name, program_of, own_home, alone};
-ghost use Rattle.env_try.specs.Environments.{seen_definition};
+ghost use Rattle.plain_run.specs.Environments.{seen_definition};
 ghost use Rattle.update_semantics.specs.UpdatingRun.{linked_by_prefix, cell_meaning, function_meaning, version_code, code_of};
 ghost use Rattle.update_semantics.specs.Worlds.{world_of};
 
 use crate::declared::Declared;
 use crate::linked::{Function, Linked, Provenance};
-use env_try::Definition;
+use plain_run::Definition;
 use crate::world::World;
 use c_lang::{Name, Program};
 use std::alloc::{AllocError, Global};

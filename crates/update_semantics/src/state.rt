@@ -3,14 +3,14 @@
 ghost use Rattle.std.specs.Prelude.{◌≡◌, IfOk, OnOk, OnErr};
 ghost use Rattle.update_semantics.specs.Code.Cells.{state_of, values_of, arrays_of, SetsCell};
 ghost use Rattle.update_semantics.specs.Code.Linked.{home_at, linked_at, function_at};
-ghost use Rattle.env_try.specs.Values.{seen_value};
+ghost use Rattle.plain_run.specs.Values.{seen_value};
 ghost use Rattle.update_semantics.specs.UpdatingRun.{put_linked, first_state, swapped_state};
 ghost use Rattle.update_semantics.specs.Worlds.{world_of};
 
 use crate::cells::Cells;
 use crate::linked::{Function, Linked};
 use crate::meanings::Meanings;
-use env_try::Value;
+use plain_run::Value;
 use std::alloc::{AllocError, Global};
 use version_names::{Part, Version};
 

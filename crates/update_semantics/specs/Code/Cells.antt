@@ -16,14 +16,14 @@ use Rattle.version_names.specs.Version as version
 use Rattle.version_names.specs.declared.part.Version.{Version}
 use Rattle.version_names.specs.declared.part.Version.TheVariants as v
 use Rattle.update_semantics.specs.Code.Linked.{function_at, program_of}
-use Rattle.env_try.specs.Values.{seen_value}
+use Rattle.plain_run.specs.Values.{seen_value}
 use Rattle.update_semantics.specs.UpdatingRun as run
 use Rattle.update_semantics.specs.UpdatingRun.{put_linked, function_meaning}
 use Rattle.update_semantics.specs.Worlds.{World, world_of}
 use Rattle.update_semantics.specs.declared.cells.Cells.{Cells}
 use Rattle.update_semantics.specs.declared.linked.Function.{Function}
 use Rattle.update_semantics.specs.declared.state.State.{State}
-use Rattle.env_try.specs.declared.value.Value.{Value}
+use Rattle.plain_run.specs.declared.value.Value.{Value}
 
 abbrev pub Values : Type 0
 Values = List (Bor Bytes × Value Function)

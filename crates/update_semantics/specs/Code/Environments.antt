@@ -1,5 +1,5 @@
 -- What the names of an updating run stand for and hold.
-use Rattle.env_try.specs.Environments.{Rules, Sees}
+use Rattle.plain_run.specs.Environments.{Rules, Sees}
 use Rattle.version_names.specs.Home.{Linked}
 use Rattle.version_names.specs.Provenance.{Provenance}
 use Rattle.update_semantics.specs.Code.Cells.{state_of}

@@ -1,5 +1,5 @@
 use Rattle.std.proofs.Common.{◌≡◌, OnOk, subst}
-use Rattle.env_try.specs.Values.{seen_value}
+use Rattle.plain_run.specs.Values.{seen_value}
 use Rattle.update_semantics.specs.Code.Cells.{state_of}
 use Rattle.update_semantics.specs.Code.Environments.{state_in}
 use Rattle.update_semantics.specs.Code.Linked.{function_at}
