@@ -3,6 +3,7 @@ use Rattle.std.proofs.Common.{◌≡◌, List, [], ◌∷◌, ◌++◌, map, rev
 use Rattle.std.specs.Borrow.{Bor}
 use Rattle.std.proofs.lemmas.List.{map-append, reverse-append}
 use Rattle.std.proofs.lemmas.List.Sums.{fold-append}
+use Rattle.plain_run.specs.Environments.{Sees}
 use Rattle.plain_run.specs.Steps.{Item, Does, after_mark}
 use Rattle.c_lang.specs.declared.stmt.Stmt.{Stmt}
 use Rattle.plain_run.specs.declared.frame.Rest.{Rest}
@@ -24,7 +25,8 @@ after_mark-left old new r body popped is =
     ap (λ rest. after_mark (seen_items rest)) popped ∙ ap after_mark (seen_items-push new r)
     ∙ ap (λ r. after_mark (before r (seen_items new))) is ∙ after_mark-body body.now (seen_items new)
 
-pub seen_frames-push : (old new : Vec Frame Global) (f : Frame) → new.items ≡ old.items ++ f ∷ [] → seen_frames new ≡ seen_frame f ∷ seen_frames old
-seen_frames-push old new f pushed =
-    ap (λ frames. reverse (map seen_frame frames)) pushed ∙ ap reverse (map-append seen_frame old.items (f ∷ []))
-    ∙ reverse-append (map seen_frame old.items) (seen_frame f ∷ [])
+pub seen_frames-push : {X Y F O : Type 0} (see : Sees X Y F O) (old new : Vec (Frame X Y) Global) (f : Frame X Y)
+    → new.items ≡ old.items ++ f ∷ [] → seen_frames see new ≡ seen_frame see f ∷ seen_frames see old
+seen_frames-push see old new f pushed =
+    ap (λ frames. reverse (map (seen_frame see) frames)) pushed ∙ ap reverse (map-append (seen_frame see) old.items (f ∷ []))
+    ∙ reverse-append (map (seen_frame see) old.items) (seen_frame see f ∷ [])

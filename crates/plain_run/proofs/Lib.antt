@@ -1,11 +1,7 @@
 pub mod Simulation
+pub mod ArithmeticLaws
 pub mod Levels
 pub mod FrameLaws
 pub mod TableLaws
-pub mod InitialLaws
-pub mod CallLaws
 pub mod StoreLaws
-pub mod ArrayLaws
-pub mod ActionLaws
-pub mod MachineLaws
-pub mod StepLaws
+pub mod CallLaws

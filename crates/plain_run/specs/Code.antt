@@ -1,5 +1,6 @@
 -- Definitions that mirror the code.
 pub mod Actions
+pub mod Arithmetic
 pub mod Calls
 pub mod Frames
 pub mod Names

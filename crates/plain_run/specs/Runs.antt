@@ -13,10 +13,12 @@ abbrev pub frame_count : {F G O : Type 0} → Config F G O → ℕ
 frame_count Over = 0
 frame_count (Live g f fs) = length fs + 1
 
-abbrev pub IsTooDeep : {F G O : Type 0} → Move (Config F G O) → Type 0
-IsTooDeep (Goes shown next) = frame_limit < frame_count next
-IsTooDeep (Asks shown next) = ⊥
-IsTooDeep Rests = ⊥
+-- with these answers the move makes one frame too many
+abbrev pub IsTooDeep : {F G O : Type 0} → Move (Config F G O) → List ℤ → Type 0
+IsTooDeep (Goes shown next) a = frame_limit < frame_count next
+IsTooDeep (Asks shown next) [] = ⊥
+IsTooDeep (Asks shown next) (v ∷ a) = frame_limit < frame_count (next v)
+IsTooDeep Rests a = ⊥
 
 -- a machine in the configuration c, with the answers a, made the move: it shows the step, and then
 -- it is in the configuration d, with the answers b
@@ -32,4 +34,4 @@ Makes move c a s d b = ⊥
 abbrev pub Makes_or_fails : {F G O : Type 0} → Move (Config F G O) → Config F G O → List ℤ → Result Step RunError → Config F G O → List ℤ → Type 0
 Makes_or_fails move c a (Ok s) d b = Makes move c a s d b
 Makes_or_fails move c a (Err NoMemory) d b = (d ≡ c) × (b ≡ a)
-Makes_or_fails move c a (Err Deep) d b = IsTooDeep move × (d ≡ c) × (b ≡ a)
+Makes_or_fails move c a (Err Deep) d b = IsTooDeep move a × (d ≡ c) × (b ≡ a)

@@ -16,11 +16,12 @@ pub enum Rest<'p> {
     Loop(&'p Stmt),
 }
 
-/// A call that hasn't returned. The innermost body stands last in `rest`. The first frame has no
-/// `dest`.
+/// A call that hasn't returned. The innermost body stands last in `rest`. The first frame and a
+/// transformer's have no `dest`.
 #[derive(Drop)]
-pub struct Frame<'p> {
-    pub locals: Values<'p>,
+pub struct Frame<'p, F, O> {
+    pub origin: O,
+    pub locals: Values<'p, F>,
     pub rest: Vec<Rest<'p>>,
     pub dest: Option<&'p Dest>,
     pub gives: bool,

@@ -7,15 +7,17 @@
 mod action;
 mod answers;
 mod call;
+mod environment;
 mod eval;
 mod frame;
 mod indexed;
-mod initial;
-mod machine;
 mod names;
+mod run;
+mod stack;
 mod step;
 mod value;
 
 pub use answers::Answers;
-pub use machine::Machine;
+pub use environment::{Callee, Decision, Definition, Environment, Look};
 pub use step::{RunError, Step};
+pub use run::Run;

@@ -1,145 +1,126 @@
 //! Values, and the arithmetic of `int`.
 
 ghost use Rattle.std.specs.Prelude.{◌≡◌};
-ghost use Rattle.std.specs.Str.{bytes_eq};
-ghost use Rattle.c_lang.specs.Values as spec;
-ghost use Rattle.c_lang.specs.Evaluation as evaluation;
-ghost use Rattle.plain_run.specs.Values.{seen_value, seen_answer};
+ghost use Rattle.c_lang.specs.Values.{is_zero};
+ghost use Rattle.plain_run.specs.Code.Arithmetic as spec;
+ghost use Rattle.plain_run.specs.Values.{number_of};
 
-use c_lang::{Name, Op, Trap};
+use c_lang::{Op, Trap};
 
-/// A number, a function by its name, or null.
+/// A number, a function or null.
 #[derive(Clone, Copy, Debug)]
-pub enum Value<'p> {
+pub enum Value<F> {
     Num(i32),
-    Code(&'p Name),
+    Code(F),
     Null,
 }
 
 /// A value, or the trap that its evaluation ended in.
-pub type Answer<'p> = Result<Value<'p>, Trap>;
+pub type Answer<F> = Result<Value<F>, Trap>;
 
-impl Value<'_> {
+impl<F: Copy> Value<F> {
     /// The number, and 0 for what is none.
-    pub fn number(self) -> i32
-        ensures { result ≡ spec.number (seen_value self.entry) }
+    pub fn number(&self) -> i32
+        ensures { result ≡ number_of self.now }
     {
         match self {
-            Value::Num(number) => number,
+            Value::Num(number) => *number,
             Value::Code(_) | Value::Null => 0,
         }
     }
 
     /// Whether the number is 0.
-    pub fn is_zero(self) -> bool
-        ensures { result ≡ spec.is_zero (spec.number (seen_value self.entry)) }
+    pub fn is_zero(&self) -> bool
+        ensures { result ≡ is_zero (number_of self.now) }
     {
         self.number() == 0
     }
 }
 
 // 1 or 0.
-pub(crate) fn truth<'p>(truth: bool) -> Answer<'p>
-    ensures { seen_answer result ≡ spec.truth truth }
+pub(crate) fn truth(truth: bool) -> i32
+    ensures { result ≡ spec.truth truth }
 {
-    if truth {
-        Ok(Value::Num(1))
-    } else {
-        Ok(Value::Num(0))
-    }
+    if truth { 1 } else { 0 }
 }
 
-pub(crate) fn negated<'p>(number: i32) -> Answer<'p>
-    ensures { seen_answer result ≡ spec.negated number }
+pub(crate) fn negated(number: i32) -> Result<i32, Trap>
+    ensures { result ≡ spec.negated number }
 {
     match 0i32.checked_sub(number) {
-        Some(number) => Ok(Value::Num(number)),
+        Some(number) => Ok(number),
         None => Err(Trap::Overflow),
     }
 }
 
-fn sum<'p>(a: i32, b: i32) -> Answer<'p>
-    ensures { seen_answer result ≡ spec.sum a b }
+fn sum(a: i32, b: i32) -> Result<i32, Trap>
+    ensures { result ≡ spec.sum a b }
 {
     match a.checked_add(b) {
-        Some(number) => Ok(Value::Num(number)),
+        Some(number) => Ok(number),
         None => Err(Trap::Overflow),
     }
 }
 
-fn difference<'p>(a: i32, b: i32) -> Answer<'p>
-    ensures { seen_answer result ≡ spec.difference a b }
+fn difference(a: i32, b: i32) -> Result<i32, Trap>
+    ensures { result ≡ spec.difference a b }
 {
     match a.checked_sub(b) {
-        Some(number) => Ok(Value::Num(number)),
+        Some(number) => Ok(number),
         None => Err(Trap::Overflow),
     }
 }
 
-fn product<'p>(a: i32, b: i32) -> Answer<'p>
-    ensures { seen_answer result ≡ spec.product a b }
+fn product(a: i32, b: i32) -> Result<i32, Trap>
+    ensures { result ≡ spec.product a b }
 {
     match a.checked_mul(b) {
-        Some(number) => Ok(Value::Num(number)),
+        Some(number) => Ok(number),
         None => Err(Trap::Overflow),
     }
 }
 
-fn quotient<'p>(a: i32, b: i32) -> Answer<'p>
-    ensures { seen_answer result ≡ spec.quotient a b }
+fn quotient(a: i32, b: i32) -> Result<i32, Trap>
+    ensures { result ≡ spec.quotient a b }
 {
     if b == 0 {
         return Err(Trap::Divide);
     }
     match a.checked_div(b) {
-        Some(number) => Ok(Value::Num(number)),
+        Some(number) => Ok(number),
         None => Err(Trap::Overflow),
     }
 }
 
-fn remainder<'p>(a: i32, b: i32) -> Answer<'p>
-    ensures { seen_answer result ≡ spec.remainder a b }
+fn remainder(a: i32, b: i32) -> Result<i32, Trap>
+    ensures { result ≡ spec.remainder a b }
 {
     if b == 0 {
         return Err(Trap::Divide);
     }
     match a.checked_rem(b) {
-        Some(number) => Ok(Value::Num(number)),
+        Some(number) => Ok(number),
         None => Err(Trap::Overflow),
     }
 }
 
-fn same_value(a: Value<'_>, b: Value<'_>) -> bool
-    ensures { result ≡ evaluation.same_value bytes_eq (seen_value a.entry) (seen_value b.entry) }
+// An operator on the numbers of both operands, which may be the same value.
+pub(crate) fn applied(op: Op, a: i32, b: i32, same: bool) -> Result<i32, Trap>
+    ensures { result ≡ spec.applied op a b same }
 {
-    match (a, b) {
-        (Value::Num(a), Value::Num(b)) => a == b,
-        (Value::Code(f), Value::Code(g)) => f == g,
-        (Value::Null, Value::Null) => true,
-        _ => false,
-    }
-}
-
-// An operator on the values of both operands.
-pub(crate) fn applied<'p>(op: Op, a: Value<'p>, b: Value<'p>) -> Answer<'p>
-    ensures { seen_answer result ≡
-        evaluation.applied bytes_eq op (seen_value a.entry) (seen_value b.entry) }
-{
-    let x = a.number();
-    let y = b.number();
     match op {
-        Op::Mul => product(x, y),
-        Op::Div => quotient(x, y),
-        Op::Rem => remainder(x, y),
-        Op::Add => sum(x, y),
-        Op::Sub => difference(x, y),
-        Op::Lt => truth(x < y),
-        Op::Le => truth(x <= y),
-        Op::Gt => truth(y < x),
-        Op::Ge => truth(y <= x),
-        Op::Eq => truth(same_value(a, b)),
-        Op::Ne => truth(!same_value(a, b)),
-        Op::And => truth(x != 0 && y != 0),
-        Op::Or => truth(x != 0 || y != 0),
+        Op::Mul => product(a, b),
+        Op::Div => quotient(a, b),
+        Op::Rem => remainder(a, b),
+        Op::Add => sum(a, b),
+        Op::Sub => difference(a, b),
+        Op::Lt => Ok(truth(a < b)),
+        Op::Le => Ok(truth(a <= b)),
+        Op::Gt => Ok(truth(b < a)),
+        Op::Ge => Ok(truth(b <= a)),
+        Op::Eq => Ok(truth(same)),
+        Op::Ne => Ok(truth(!same)),
+        Op::And => Ok(truth(a != 0 && b != 0)),
+        Op::Or => Ok(truth(a != 0 || b != 0)),
     }
 }

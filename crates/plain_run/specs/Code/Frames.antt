@@ -1,14 +1,13 @@
--- What the machine's frames stand for.
+-- What the code's frames stand for.
 use Rattle.std.specs.Prelude.{Bool, List, [], ◌∷◌, ◌++◌, map, reverse, fold, Option, Some, None, Vec}
 use Rattle.std.specs.Borrow.{Bor}
 use Rattle.std.specs.declared.alloc.Global.{Global}
-use Rattle.c_lang.specs.Names.{Bytes}
-use Rattle.plain_run.specs.PlainRun.{PlainFrame}
-use Rattle.plain_run.specs.Steps.{Item, Does, Mark}
+use Rattle.plain_run.specs.Environments.{Sees}
+use Rattle.plain_run.specs.Steps as steps
+use Rattle.plain_run.specs.Steps.{Item, Does, Mark, Locals}
 use Rattle.c_lang.specs.declared.stmt.Dest.{Dest}
 use Rattle.c_lang.specs.declared.stmt.Dest.TheVariants.{Nowhere}
 use Rattle.c_lang.specs.declared.stmt.Stmt.{Stmt}
-use Rattle.plain_run.specs.declared.value.Value.{Value}
 use Rattle.plain_run.specs.declared.frame.Rest.{Rest}
 use Rattle.plain_run.specs.declared.frame.Rest.TheVariants.{Body, Loop}
 use Rattle.plain_run.specs.declared.frame.Frame.{Frame}
@@ -32,16 +31,25 @@ abbrev pub behind_first : List Item → List Item
 behind_first [] = []
 behind_first (item ∷ items) = items
 
-abbrev pub frame_with : List (Bor Bytes × Value) → List Item → Dest → Bool → PlainFrame
-frame_with locals items dest gives = record { origin = tt; locals = seen_locals locals; items = items; dest = dest; gives = gives }
-
 abbrev pub dest_of : Option (Bor Dest) → Dest
 dest_of None = Nowhere
 dest_of (Some d) = d.now
 
-abbrev pub seen_frame : Frame → PlainFrame
-seen_frame f = frame_with f.locals.entries (seen_items f.rest.items) (dest_of f.dest) f.gives
+abbrev pub frame_with : {F O : Type 0} → O → Locals F → List Item → Dest → Bool → steps.Frame F O
+frame_with origin locals items dest gives = record { origin = origin; locals = locals; items = items; dest = dest; gives = gives }
 
--- the frame on top stands last
-abbrev pub seen_frames : Vec Frame Global → List PlainFrame
-seen_frames below = reverse (map seen_frame below.items)
+module _ {X Y F O : Type 0} (see : Sees X Y F O) where
+  -- the frame with these items
+  abbrev pub seen_with : List Item → Frame X Y → steps.Frame F O
+  seen_with items f = frame_with (see.origin f.origin) (seen_locals see.function f.locals.entries) items (dest_of f.dest) f.gives
+
+  abbrev pub seen_frame : Frame X Y → steps.Frame F O
+  seen_frame f = seen_with (seen_items f.rest.items) f
+
+  -- without the statement that runs next
+  abbrev pub behind_statement : Frame X Y → steps.Frame F O
+  behind_statement f = seen_with (behind_first (seen_items f.rest.items)) f
+
+  -- the frame on top stands last
+  abbrev pub seen_frames : Vec (Frame X Y) Global → List (steps.Frame F O)
+  seen_frames below = reverse (map seen_frame below.items)

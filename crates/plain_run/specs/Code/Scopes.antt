@@ -1,13 +1,14 @@
 -- What names stand for while a frame is on top.
-use Rattle.c_lang.specs.Names.{Bytes}
 use Rattle.c_lang.specs.Evaluation.{Look}
-use Rattle.plain_run.specs.Steps.{local_or}
-use Rattle.plain_run.specs.declared.eval.Scope.{Scope}
-use Rattle.plain_run.specs.Code.Names.{seen_locals, seen_values, seen_arrays}
+use Rattle.plain_run.specs.Environments.{Rules, Sees, seen_callee}
+use Rattle.plain_run.specs.Steps.{look}
+use Rattle.plain_run.specs.declared.environment.Callee.{Callee}
+use Rattle.plain_run.specs.declared.frame.Frame.{Frame}
+use Rattle.plain_run.specs.Code.Frames.{seen_frame}
 
-abbrev pub look_of : Scope → Look Bytes
-look_of s = record {
-  value = λ x. local_or (seen_locals s.locals.now.entries x) (seen_values s.values.now.entries x);
-  elements = seen_arrays s.arrays.now.entries;
-  code = λ f. f;
-}
+module _ {X Y F G O : Type 0} (see : Sees X Y F O) (R : Rules F G O) (g : G) (f : Frame X Y) where
+  abbrev pub look_in : Look F
+  look_in = look R.access g (seen_frame see f)
+
+  abbrev pub callee_in : Callee X → F
+  callee_in = seen_callee see.function (R.access.code (see.origin f.origin) g)

@@ -6,10 +6,10 @@ use Rattle.plain_run.specs.Values.{seen_value}
 use Rattle.plain_run.proofs.call.bound.Given as goal
 
 abbrev pub invariant-loop-left : goal.invariant-loop-left
-invariant-loop-left l = record {
+invariant-loop-left g l = record {
   within : l.left ≤ length l.params;
-  locals : (x : Bytes) → seen_locals l.locals.entries x ≡ bound (drop l.left l.params) (drop l.left (map seen_value l.args)) x;
+  locals : (x : Bytes) → seen_locals g.E.Look.seen.function l.locals.entries x ≡ bound (drop l.left l.params) (drop l.left (map (seen_value g.E.Look.seen.function) l.args)) x;
 }
 
 abbrev pub decreases-loop-left : goal.decreases-loop-left
-decreases-loop-left l = l.left
+decreases-loop-left g l = l.left
