@@ -20,4 +20,5 @@ mod value;
 pub use answers::Answers;
 pub use environment::{Callee, Decision, Definition, Environment, Look};
 pub use step::{RunError, Step};
+pub use value::Value;
 pub use run::Run;

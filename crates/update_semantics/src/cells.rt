@@ -13,9 +13,9 @@ ghost use Rattle.update_semantics.specs.Worlds.{world_of};
 
 use crate::linked::{Function, Provenance};
 use crate::meanings::Meanings;
-use plain_run::Value;
 use c_lang::Shape;
 use indexmap::IndexMap;
+use plain_run::Value;
 use std::alloc::{AllocError, Global};
 use version_names::Version;
 

@@ -4,7 +4,8 @@ ghost use Rattle.std.specs.Prelude.{◌≡◌, IfOk};
 ghost use Rattle.std.specs.Option.{option_copied};
 ghost use Rattle.c_lang.specs.Programs.{global_named, func_named};
 ghost use Rattle.update_semantics.specs.Code.Linked.{declared_name};
-ghost use Rattle.update_semantics.specs.Code.Tables.{HasGlobals, HasFuncs};
+ghost use Rattle.plain_run.specs.Code.Tables.{HasFuncs};
+ghost use Rattle.update_semantics.specs.Code.Tables.{HasGlobals};
 
 use c_lang::{Func, GlobalVar, Name, Program};
 use indexmap::IndexMap;
@@ -29,7 +30,8 @@ impl<'p> Model for Declared<'p> {
     ghost use Rattle.std.specs.Coded.{codes};
     ghost use Rattle.c_lang.specs.declared.program.Program.{Program};
     ghost use Rattle.c_lang.specs.contracts.program.Program as the_program;
-    ghost use Rattle.update_semantics.specs.Code.Tables.{HasGlobals, HasFuncs};
+    ghost use Rattle.plain_run.specs.Code.Tables.{HasFuncs};
+    ghost use Rattle.update_semantics.specs.Code.Tables.{HasGlobals};
 
     ghost Value = { Program };
 

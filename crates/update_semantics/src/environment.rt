@@ -102,7 +102,12 @@ impl<'p> UpdatedNames<'p> {
     }
 
     // Whether a function is the same as one in an expression.
-    fn is_same(&self, origin: Provenance, left: Function<'_>, right: Callee<'_, Function<'p>>) -> bool
+    fn is_same(
+        &self,
+        origin: Provenance,
+        left: Function<'_>,
+        right: Callee<'_, Function<'p>>,
+    ) -> bool
         ensures { result ≡ same_linked (function_at left.entry)
             (seen_callee function_at ((rules_in self.now).access.code (provenance_of origin) (state_in self.now)) right.entry) }
     {
@@ -155,7 +160,11 @@ impl<'p> Look for UpdatedNames<'p> {
     {
         match left {
             Callee::Known(left) => self.is_same(origin, left, right),
-            Callee::Named(left) => self.is_same(origin, self.meanings.function(origin, left), right),
+            Callee::Named(left) => self.is_same(
+                origin,
+                self.meanings.function(origin, left),
+                right,
+            ),
         }
     }
 }
@@ -228,13 +237,7 @@ impl<'p> Environment<'p> for UpdatedNames<'p> {
         self.state.put(cell, value)
     }
 
-    fn set_element(
-        &mut self,
-        origin: Provenance,
-        array: &'p Name,
-        at: i32,
-        element: i32,
-    ) -> bool {
+    fn set_element(&mut self, origin: Provenance, array: &'p Name, at: i32, element: i32) -> bool {
         let cell = self.meanings.cell(origin, array);
         self.state.set_element(cell, at, element)
     }

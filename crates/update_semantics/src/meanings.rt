@@ -13,9 +13,9 @@ ghost use Rattle.update_semantics.specs.Worlds.{world_of};
 
 use crate::declared::Declared;
 use crate::linked::{Function, Linked, Provenance};
-use plain_run::Definition;
 use crate::world::World;
 use c_lang::{Name, Program};
+use plain_run::Definition;
 use std::alloc::{AllocError, Global};
 use std::marker::Model;
 use version_names::{Part, Sort2, Version};
@@ -142,7 +142,13 @@ impl<'p> Meanings<'p> {
     }
 
     // The name behind a version's prefix, where that version alone has it.
-    fn alone<'a>(&self, version: Version, sort: Sort2, behind: &'a [u8], name: &'a [u8]) -> Linked<'a>
+    fn alone<'a>(
+        &self,
+        version: Version,
+        sort: Sort2,
+        behind: &'a [u8],
+        name: &'a [u8],
+    ) -> Linked<'a>
         ensures { linked_at result ≡ alone (home_in (world_of self.now) sort) version behind.entry.now name.entry.now }
     {
         let part = self.part_of_bytes(version, sort, behind);

@@ -1,12 +1,10 @@
 -- What the tables of cells stand for.
-use Rattle.std.specs.Prelude.{◌≡◌, ℤ, pos, Bool, true, false, List, [], Option, Some, None, Vec}
-use Rattle.std.specs.Borrow.{Bor}
-use Rattle.std.specs.declared.alloc.Global.{Global}
+use Rattle.std.specs.Prelude.{◌≡◌, ℤ, pos, Bool, true, false, List, [], Some, None}
 use Rattle.c_lang.specs.Names.{Bytes}
 use Rattle.c_lang.specs.Programs.{global_named, initial_value, initial_elements}
 use Rattle.c_lang.specs.Values as spec
 use Rattle.c_lang.specs.declared.program.GlobalVar.{GlobalVar}
-use Rattle.plain_run.specs.Code.Names.{found, seen_arrays}
+use Rattle.plain_run.specs.Code.Names.{Entries, Arrays, seen_values, seen_arrays}
 use Rattle.plain_run.specs.Steps.{updated, elements_with}
 use Rattle.version_names.specs.Home as home
 use Rattle.version_names.specs.Home.{Home, Linked}
@@ -16,30 +14,18 @@ use Rattle.version_names.specs.Version as version
 use Rattle.version_names.specs.declared.part.Version.{Version}
 use Rattle.version_names.specs.declared.part.Version.TheVariants as v
 use Rattle.update_semantics.specs.Code.Linked.{function_at, program_of}
-use Rattle.plain_run.specs.Values.{seen_value}
 use Rattle.update_semantics.specs.UpdatingRun as run
 use Rattle.update_semantics.specs.UpdatingRun.{put_linked, function_meaning}
 use Rattle.update_semantics.specs.Worlds.{World, world_of}
 use Rattle.update_semantics.specs.declared.cells.Cells.{Cells}
 use Rattle.update_semantics.specs.declared.linked.Function.{Function}
 use Rattle.update_semantics.specs.declared.state.State.{State}
-use Rattle.plain_run.specs.declared.value.Value.{Value}
 
 abbrev pub Values : Type 0
-Values = List (Bor Bytes × Value Function)
-
-abbrev pub Arrays : Type 0
-Arrays = List (Bor Bytes × Vec ℤ Global)
-
-abbrev pub value_or_zero : Option (Value Function) → spec.Value Linked
-value_or_zero None = spec.Num (pos 0)
-value_or_zero (Some v) = seen_value function_at v
-
-abbrev pub seen_values : Values → Bytes → spec.Value Linked
-seen_values entries x = value_or_zero (found entries x)
+Values = Entries Function
 
 abbrev pub values_of : Cells → Bytes → spec.Value Linked
-values_of c = seen_values c.values.entries
+values_of c = seen_values function_at c.values.entries
 
 abbrev pub arrays_of : Cells → Bytes → List ℤ
 arrays_of c = seen_arrays c.arrays.entries
@@ -52,7 +38,7 @@ origin_of v.New = origin.New
 -- the cells have the initial values of these globals of a version
 abbrev pub HasValuesOf : World → Version → Values → List GlobalVar → Type 0
 HasValuesOf w u entries globals =
-    (x : Bytes) → seen_values entries x ≡ initial_value (function_meaning (world_of w) (origin_of u) (version_of u)) (global_named globals x)
+    (x : Bytes) → seen_values function_at entries x ≡ initial_value (function_meaning (world_of w) (origin_of u) (version_of u)) (global_named globals x)
 
 abbrev pub HasArraysOf : Arrays → List GlobalVar → Type 0
 HasArraysOf entries globals = (x : Bytes) → seen_arrays entries x ≡ initial_elements (global_named globals x)
