@@ -5,3 +5,6 @@ pub mod FrameLaws
 pub mod TableLaws
 pub mod StoreLaws
 pub mod CallLaws
+pub mod ActionLaws
+pub mod StepLaws
+pub mod MachineLaws

@@ -4,6 +4,7 @@ pub mod Arithmetic
 pub mod Calls
 pub mod Frames
 pub mod Names
+pub mod Performed
 pub mod Scopes
 pub mod SeenActions
 pub mod Stored

@@ -1,6 +1,7 @@
 //! Tables of names.
 
 ghost use Rattle.std.specs.Prelude.{◌≡◌, OnOk, OnErr};
+ghost use Rattle.plain_run.specs.Code.Frames.{dest_of};
 ghost use Rattle.plain_run.specs.Code.Stored.{Stores};
 
 use crate::environment::Environment;
@@ -42,4 +43,25 @@ pub(crate) fn store<'p, E: Environment<'p>>(
         }
     }
     Ok(())
+}
+
+// The same for a result, which goes nowhere where there is no destination.
+pub(crate) fn store_result<'p, E: Environment<'p>>(
+    environment: &mut E,
+    origin: E::Origin,
+    locals: &mut Values<'p, E::Function>,
+    dest: Option<&'p Dest>,
+    value: Value<E::Function>,
+) -> Result<(), AllocError>
+    ensures stored { OnOk result (Stores E.seen (E.rules environment.old).access origin
+        (E.state environment.old) locals.old.entries (dest_of dest.entry) value
+        (E.state environment.new) locals.new.entries) }
+    ensures rules { E.rules environment.new ≡ E.rules environment.old }
+    ensures state { OnErr result (E.state environment.new ≡ E.state environment.old) }
+    ensures locals { OnErr result (locals.new.entries ≡ locals.old.entries) }
+{
+    match dest {
+        Some(dest) => store(environment, origin, locals, dest, value),
+        None => Ok(()),
+    }
 }

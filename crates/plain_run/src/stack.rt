@@ -1,7 +1,9 @@
-ghost use Rattle.std.specs.Prelude.{◌<◌, vec_len};
+ghost use Rattle.std.specs.Prelude.{◌≡◌, ◌<◌, ◌≤◌, ◌+◌, vec_len, vec_capacity, OnOk, IsErrOf};
 ghost use Rattle.c_lang.specs.Limits.{frame_limit};
 
 use crate::frame::Frame;
+use crate::step::RunError;
+use c_lang::FRAME_LIMIT;
 
 /// The frames of a run. Where it is over, they play no part.
 #[derive(Drop)]
@@ -9,5 +11,22 @@ pub struct Stack<'p, F, O> {
     pub top: Frame<'p, F, O>,
     pub below: Vec<Frame<'p, F, O>>,
     pub over: bool,
-    ghost shallow: { vec_len below < frame_limit },
+}
+
+impl<'p, F: Copy, O: Copy> Stack<'p, F, O> {
+    // Makes room for one frame more. The frames stay as they are.
+    pub(crate) fn reserve(&mut self) -> Result<(), RunError>
+        ensures room { OnOk result (vec_len self.new.below < vec_capacity self.new.below) }
+        ensures shallow { OnOk result (vec_len self.new.below + 1 < frame_limit) }
+        ensures deep { IsErrOf result RunError.Deep → frame_limit ≤ vec_len self.old.below + 1 }
+        ensures below { self.new.below.items ≡ self.old.below.items }
+        ensures top { self.new.top ≡ self.old.top }
+        ensures over { self.new.over ≡ self.old.over }
+    {
+        if self.below.len() >= FRAME_LIMIT - 1 {
+            return Err(RunError::Deep);
+        }
+        self.below.reserve(1)?;
+        Ok(())
+    }
 }
