@@ -8,8 +8,8 @@ ghost use Rattle.update_semantics.specs.Code.Decisions.{Picks};
 ghost use Rattle.update_semantics.specs.Code.Environments.{world_in, state_in, rules_in};
 ghost use Rattle.update_semantics.specs.Code.Linked.{function_at, provenance_of};
 ghost use Rattle.plain_run.specs.Values.{seen_value};
-ghost use Rattle.plain_run.specs.Environments.{SetsElement, seen_callee, seen_definition};
-ghost use Rattle.update_semantics.specs.UpdatingRun.{first_state, swapped_state, entry_code};
+ghost use Rattle.plain_run.specs.Environments.{seen_callee, seen_definition};
+ghost use Rattle.update_semantics.specs.UpdatingRun.{first_state, entry_code};
 ghost use Rattle.update_semantics.specs.Worlds.{world_of};
 
 use crate::linked::{Function, Provenance};

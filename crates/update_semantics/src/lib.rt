@@ -1,4 +1,7 @@
-//! Runs of an old program that is updated once at most.
+//! Runs of an old program that is updated to a new one once at most.
+//!
+//! A `World` has both programs and what the update takes. `UpdMachine` makes a run's steps: it is the
+//! machine of `plain_run` over names that stand for cells and functions of either version.
 #![tactic(auto)]
 
 mod cells;
@@ -10,7 +13,5 @@ mod meanings;
 mod state;
 mod world;
 
-pub use environment::UpdatedNames;
-pub use linked::{Function, Linked, Provenance};
 pub use machine::UpdMachine;
 pub use world::World;

@@ -10,7 +10,6 @@ use Rattle.version_names.specs.Home as home
 use Rattle.version_names.specs.Home.{Home, Linked}
 use Rattle.version_names.specs.Parts.{version_of}
 use Rattle.version_names.specs.Provenance as origin
-use Rattle.version_names.specs.Version as version
 use Rattle.version_names.specs.declared.part.Version.{Version}
 use Rattle.version_names.specs.declared.part.Version.TheVariants as v
 use Rattle.update_semantics.specs.Code.Linked.{function_at, program_of}

@@ -1,7 +1,7 @@
 -- What an updating run does at a point, a force or a pick, as the code decides it.
 use Rattle.std.specs.Prelude.{◌≡◌, List}
 use Rattle.c_lang.specs.declared.stmt.Stmt.{Stmt, out-Stmt}
-use Rattle.plain_run.specs.Environments.{Rules, decided}
+use Rattle.plain_run.specs.Environments.{decided}
 use Rattle.plain_run.specs.declared.environment.Decision.{Decision}
 use Rattle.update_semantics.specs.Rules.{rules_of}
 use Rattle.update_semantics.specs.UpdatingRun.{World, State, UpdFrame, picked}
