@@ -72,7 +72,7 @@ pub trait Look: Drop {
             (rules self.now).access.value (seen.origin origin) (state self.now) name.now };
 
     /// The elements of an array.
-    fn elements(&self, origin: Self::Origin, array: &Name) -> &[i32]
+    fn elements<'a>(&'a self, origin: Self::Origin, array: &'a Name) -> &'a [i32]
         ensures { result.now ≡
             (rules self.now).access.elements (seen.origin origin) (state self.now) array.now };
 

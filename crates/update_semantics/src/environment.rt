@@ -144,7 +144,7 @@ impl<'p> Look for UpdatedNames<'p> {
         self.state.value(self.meanings.cell(origin, name))
     }
 
-    fn elements(&self, origin: Provenance, array: &Name) -> &[i32] {
+    fn elements<'a>(&'a self, origin: Provenance, array: &'a Name) -> &'a [i32] {
         self.state.elements(self.meanings.cell(origin, array))
     }
 
