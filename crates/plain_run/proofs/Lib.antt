@@ -8,3 +8,5 @@ pub mod CallLaws
 pub mod ActionLaws
 pub mod StepLaws
 pub mod MachineLaws
+pub mod InitialLaws
+pub mod TableWrites

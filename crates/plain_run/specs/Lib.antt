@@ -5,4 +5,5 @@ pub mod Values
 pub mod Environments
 pub mod Stacks
 pub mod Runs
+pub mod PlainEnvironments
 pub mod Code

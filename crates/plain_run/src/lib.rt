@@ -11,7 +11,9 @@ mod environment;
 mod eval;
 mod frame;
 mod indexed;
+mod initial;
 mod names;
+mod plain;
 mod run;
 mod stack;
 mod step;
@@ -19,6 +21,7 @@ mod value;
 
 pub use answers::Answers;
 pub use environment::{Callee, Decision, Definition, Environment, Look};
+pub use plain::Plain;
+pub use run::Run;
 pub use step::{RunError, Step};
 pub use value::Value;
-pub use run::Run;

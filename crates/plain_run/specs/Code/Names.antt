@@ -37,3 +37,7 @@ elements_or_none (Some elements) = elements.items
 
 abbrev pub seen_arrays : Arrays → Bytes → List ℤ
 seen_arrays entries x = elements_or_none (found entries x)
+
+-- a function's name stands for itself
+abbrev pub plain_function : Bor Bytes → Bytes
+plain_function n = n.now
