@@ -21,6 +21,7 @@ mod value;
 
 pub use answers::Answers;
 pub use environment::{Callee, Decision, Definition, Environment, Look};
-pub use step::{RunError, Step};
 pub use plain::Plain;
 pub use run::Run;
+pub use step::{RunError, Step};
+pub use value::Value;

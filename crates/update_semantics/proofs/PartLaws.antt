@@ -1,5 +1,5 @@
 -- Where names stand, by what is kept of links and declarations.
-use Rattle.std.proofs.Common.{◌≡◌, ℕ, Bool, true, false, if◌then◌else◌, List, [], ◌∷◌, Option, Some, None, is_some, refl, sym, ap, ◌∙◌}
+use Rattle.std.proofs.Common.{◌≡◌, Bool, true, false, if◌then◌else◌, List, [], ◌∷◌, Option, Some, None, is_some, refl, ap, ◌∙◌}
 use Rattle.std.specs.Option.{option_map}
 use Rattle.std.specs.Str.{bytes_eq}
 use Rattle.c_lang.specs.Names.{Bytes}
@@ -8,7 +8,7 @@ use Rattle.c_lang.specs.declared.program.Func.{Func}
 use Rattle.c_lang.specs.declared.program.GlobalVar.{GlobalVar}
 use Rattle.plain_run.proofs.TableLaws.{from_true}
 use Rattle.version_names.specs.Code.Tables as tables
-use Rattle.version_names.specs.Home.{Home, Unlinked}
+use Rattle.version_names.specs.Home.{Unlinked}
 use Rattle.version_names.specs.Links.{part}
 use Rattle.version_names.specs.Version as version
 use Rattle.version_names.specs.Parts.{part_at, part_by, part_of, entries_of, version_of}

@@ -1,6 +1,6 @@
 -- Definitions that mirror the code.
 pub mod Cells
+pub mod Decisions
 pub mod Environments
 pub mod Linked
 pub mod Tables
-pub mod Values

@@ -1,3 +1,5 @@
 pub mod UpdatingRun
 pub mod Worlds
+pub mod Rules
+pub mod Machines
 pub mod Code

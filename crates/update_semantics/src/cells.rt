@@ -5,17 +5,17 @@ ghost use Rattle.c_lang.specs.Programs.{shape_value, shape_elements};
 ghost use Rattle.c_lang.specs.Values.{Num};
 ghost use Rattle.plain_run.specs.Steps.{updated, elements_with};
 ghost use Rattle.version_names.specs.Parts.{version_of};
-ghost use Rattle.update_semantics.specs.Code.Cells.{values_of, arrays_of, origin_of, HasValues, HasArrays, StoresElement};
+ghost use Rattle.update_semantics.specs.Code.Cells.{values_of, arrays_of, origin_of, HasValues, HasArrays, SetsIn};
 ghost use Rattle.update_semantics.specs.Code.Linked.{function_at, provenance_of};
-ghost use Rattle.update_semantics.specs.Code.Values.{seen_value};
+ghost use Rattle.plain_run.specs.Values.{seen_value};
 ghost use Rattle.update_semantics.specs.UpdatingRun.{function_meaning};
 ghost use Rattle.update_semantics.specs.Worlds.{world_of};
 
 use crate::linked::{Function, Provenance};
 use crate::meanings::Meanings;
-use crate::value::Value;
 use c_lang::Shape;
 use indexmap::IndexMap;
+use plain_run::Value;
 use std::alloc::{AllocError, Global};
 use version_names::Version;
 
@@ -147,20 +147,20 @@ impl<'p> Cells<'p> {
     }
 
     /// The value of the cell with this name, and 0 where there is none. It takes no memory.
-    pub fn value(&self, name: &'p [u8]) -> Value<Function<'p>>
-        ensures { seen_value function_at result ≡ values_of self.now name.entry.now }
+    pub fn value(&self, name: &[u8]) -> Value<Function<'p>>
+        ensures { seen_value function_at result ≡ values_of self.now name.now }
     {
-        match self.values.get(&name) {
+        match self.values.get(name) {
             Some(value) => *value,
             None => Value::Num(0),
         }
     }
 
     /// The elements of the array with this name, and none where there is none. It takes no memory.
-    pub fn elements(&self, name: &'p [u8]) -> &[i32]
-        ensures { result.now ≡ arrays_of self.now name.entry.now }
+    pub fn elements(&self, name: &[u8]) -> &[i32]
+        ensures { result.now ≡ arrays_of self.now name.now }
     {
-        match self.arrays.get(&name) {
+        match self.arrays.get(name) {
             Some(elements) => elements.as_slice(),
             None => &[],
         }
@@ -179,10 +179,10 @@ impl<'p> Cells<'p> {
     /// Writes an element of the array with this name, where the index is within the bounds, and says
     /// whether it is. It takes no memory.
     pub fn set_element(&mut self, name: &'p [u8], at: i32, element: i32) -> bool
-        ensures stores { StoresElement (arrays_of self.old) name.entry.now at element result (arrays_of self.new) }
+        ensures stores { SetsIn (arrays_of self.old) name.entry.now at element result (arrays_of self.new) }
         ensures values { values_of self.new ≡ values_of self.old }
     {
-        match self.arrays.get_mut(&name) {
+        match self.arrays.get_mut(name) {
             Some(elements) => set_element(elements, at, element),
             None => false,
         }

@@ -4,7 +4,8 @@ ghost use Rattle.std.specs.Prelude.{◌≡◌, IfOk};
 ghost use Rattle.std.specs.Option.{option_copied};
 ghost use Rattle.c_lang.specs.Programs.{global_named, func_named};
 ghost use Rattle.update_semantics.specs.Code.Linked.{declared_name};
-ghost use Rattle.update_semantics.specs.Code.Tables.{HasGlobals, HasFuncs};
+ghost use Rattle.plain_run.specs.Code.Tables.{HasFuncs};
+ghost use Rattle.update_semantics.specs.Code.Tables.{HasGlobals};
 
 use c_lang::{Func, GlobalVar, Name, Program};
 use indexmap::IndexMap;
@@ -29,7 +30,8 @@ impl<'p> Model for Declared<'p> {
     ghost use Rattle.std.specs.Coded.{codes};
     ghost use Rattle.c_lang.specs.declared.program.Program.{Program};
     ghost use Rattle.c_lang.specs.contracts.program.Program as the_program;
-    ghost use Rattle.update_semantics.specs.Code.Tables.{HasGlobals, HasFuncs};
+    ghost use Rattle.plain_run.specs.Code.Tables.{HasFuncs};
+    ghost use Rattle.update_semantics.specs.Code.Tables.{HasGlobals};
 
     ghost Value = { Program };
 
@@ -90,19 +92,19 @@ impl<'p> Declared<'p> {
     }
 
     /// The function with this name. It takes no memory.
-    pub fn func(&self, name: &'p [u8]) -> Option<&'p Func>
-        ensures { option_copied result ≡ func_named self.now.funcs name.entry.now }
+    pub fn func(&self, name: &[u8]) -> Option<&'p Func>
+        ensures { option_copied result ≡ func_named self.now.funcs name.now }
     {
-        match self.funcs.get(&name) {
+        match self.funcs.get(name) {
             Some(func) => Some(*func),
             None => None,
         }
     }
 
-    fn global(&self, name: &'p [u8]) -> Option<&'p GlobalVar>
-        ensures { option_copied result ≡ global_named self.now.globals name.entry.now }
+    fn global(&self, name: &[u8]) -> Option<&'p GlobalVar>
+        ensures { option_copied result ≡ global_named self.now.globals name.now }
     {
-        match self.globals.get(&name) {
+        match self.globals.get(name) {
             Some(global) => Some(*global),
             None => None,
         }
@@ -110,8 +112,8 @@ impl<'p> Declared<'p> {
 
     /// The name of the global or the function that has these bytes as its name, where the program
     /// declares it. It takes no memory.
-    pub fn name(&self, sort: Sort2, name: &'p [u8]) -> Option<&'p Name>
-        ensures { option_copied result ≡ declared_name self.now sort name.entry.now }
+    pub fn name(&self, sort: Sort2, name: &[u8]) -> Option<&'p Name>
+        ensures { option_copied result ≡ declared_name self.now sort name.now }
     {
         match sort {
             Sort2::Cell => match self.global(name) {

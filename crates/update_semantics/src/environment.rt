@@ -1,23 +1,23 @@
 //! What names stand for in an updating run, and what they hold.
 
-ghost use Rattle.std.specs.Prelude.{◌≡◌, ◌&&◌, IfOk, OnOk, OnErr, codes, None};
-ghost use Rattle.version_names.specs.Home.{Xform};
+ghost use Rattle.std.specs.Prelude.{◌≡◌, ◌&&◌, IfOk, OnOk, OnErr, None};
+ghost use Rattle.version_names.specs.Home.{same_linked};
 ghost use Rattle.version_names.specs.Provenance.{may_update};
-ghost use Rattle.version_names.specs.Version as versions;
 ghost use Rattle.version_names.specs.Version.{is_old};
-ghost use Rattle.update_semantics.specs.Code.Cells.{SetsElement};
-ghost use Rattle.update_semantics.specs.Code.Environments.{world_in, state_in, access_in};
+ghost use Rattle.update_semantics.specs.Code.Decisions.{Picks};
+ghost use Rattle.update_semantics.specs.Code.Environments.{world_in, state_in, rules_in};
 ghost use Rattle.update_semantics.specs.Code.Linked.{function_at, provenance_of};
-ghost use Rattle.update_semantics.specs.Code.Values.{seen_value, seen_definition};
-ghost use Rattle.update_semantics.specs.UpdatingRun.{first_state, swapped_state, cell_meaning, code_of, entry_code};
+ghost use Rattle.plain_run.specs.Values.{seen_value};
+ghost use Rattle.plain_run.specs.Environments.{seen_callee, seen_definition};
+ghost use Rattle.update_semantics.specs.UpdatingRun.{first_state, entry_code};
 ghost use Rattle.update_semantics.specs.Worlds.{world_of};
 
 use crate::linked::{Function, Provenance};
 use crate::meanings::Meanings;
 use crate::state::State;
-use crate::value::{Definition, Value};
 use crate::world::World;
-use c_lang::Name;
+use c_lang::{Name, Stmt};
+use plain_run::{Callee, Decision, Definition, Environment, Look, Value};
 use std::alloc::{AllocError, Global};
 use version_names::Version;
 
@@ -26,6 +26,40 @@ use version_names::Version;
 pub struct UpdatedNames<'p> {
     meanings: Meanings<'p>,
     state: State<'p>,
+}
+
+// What is done at a pick of this statement.
+fn picked(statement: &Stmt) -> Decision<'_>
+    ensures { Picks statement.entry.now result }
+{
+    match statement {
+        Stmt::Call {
+            pos,
+            dest,
+            callee,
+            args,
+        } => Decision::Call {
+            callee,
+            args: args.as_slice(),
+            dest,
+            pos: *pos,
+        },
+        Stmt::Skip { .. }
+        | Stmt::Set { .. }
+        | Stmt::SetElem { .. }
+        | Stmt::CallBy { .. }
+        | Stmt::If { .. }
+        | Stmt::While { .. }
+        | Stmt::Break { .. }
+        | Stmt::Return { .. }
+        | Stmt::Assert { .. }
+        | Stmt::Input { .. }
+        | Stmt::Output { .. }
+        | Stmt::Point { .. }
+        | Stmt::Choice { .. }
+        | Stmt::Force { .. }
+        | Stmt::Pick { .. } => Decision::Next(statement),
+    }
 }
 
 impl<'p> UpdatedNames<'p> {
@@ -39,66 +73,14 @@ impl<'p> UpdatedNames<'p> {
         Ok(UpdatedNames { meanings, state })
     }
 
-    /// The value of a global, and 0 where the name stands for none. It takes no memory.
-    pub fn value(&self, origin: Provenance, name: &'p Name) -> Value<Function<'p>>
-        ensures { seen_value function_at result ≡
-            (access_in self.now).value (provenance_of origin) (state_in self.now) name.entry.now }
+    /// The old version's `main`, with which runs start. It takes no memory.
+    pub fn main(&self) -> Definition<'p, Provenance>
+        ensures { seen_definition provenance_of result ≡ entry_code (world_of (world_in self.now)) None }
     {
-        self.state.value(self.meanings.cell(origin, name))
+        self.meanings.version_code(Version::Old, b"main")
     }
 
-    /// The elements of a global array, and none where the name stands for none. It takes no memory.
-    pub fn elements(&self, origin: Provenance, name: &'p Name) -> &[i32]
-        ensures { result.now ≡ (access_in self.now).elements (provenance_of origin) (state_in self.now) name.entry.now }
-    {
-        self.state.elements(self.meanings.cell(origin, name))
-    }
-
-    /// The function that a name stands for. It takes no memory.
-    pub fn code(&self, origin: Provenance, name: &'p Name) -> Function<'p>
-        ensures { function_at result ≡
-            (access_in self.now).code (provenance_of origin) (state_in self.now) name.entry.now }
-    {
-        self.meanings.function(origin, name)
-    }
-
-    /// Where the body of a function was written, and the function as it is there; no function where
-    /// nothing declares it. It takes no memory.
-    pub fn enter(&self, function: Function<'p>) -> Definition<'p, Provenance>
-        ensures { seen_definition provenance_of result ≡ (access_in self.now).enter (state_in self.now) (function_at function.entry) }
-    {
-        self.meanings.code(self.state.version, function)
-    }
-
-    /// Writes a global. The only error is want of memory, and nothing has changed then.
-    pub fn put(
-        &mut self,
-        origin: Provenance,
-        name: &'p Name,
-        value: Value<Function<'p>>,
-    ) -> Result<(), AllocError>
-        ensures put { OnOk result (state_in self.new ≡ (access_in self.old).put (provenance_of origin) name.entry.now
-            (seen_value function_at value.entry) (state_in self.old)) }
-        ensures kept { OnErr result (state_in self.new ≡ state_in self.old) }
-        ensures world { world_in self.new ≡ world_in self.old }
-    {
-        let cell = self.meanings.cell(origin, name);
-        self.state.put(cell, value)
-    }
-
-    /// Writes an element of a global array, where the index is within the bounds, and says whether it
-    /// is. It takes no memory.
-    pub fn set_element(&mut self, origin: Provenance, name: &'p Name, at: i32, element: i32) -> bool
-        ensures stores { SetsElement (state_in self.old)
-            (cell_meaning (world_of (world_in self.old)) (provenance_of origin) name.entry.now) at element result (state_in self.new) }
-        ensures world { world_in self.new ≡ world_in self.old }
-    {
-        let cell = self.meanings.cell(origin, name);
-        self.state.set_element(cell, at, element)
-    }
-
-    /// Whether the old version is the current one. It takes no memory.
-    pub fn is_old(&self) -> bool
+    fn is_old(&self) -> bool
         ensures { result ≡ is_old (state_in self.now).now }
     {
         match self.state.version {
@@ -107,8 +89,8 @@ impl<'p> UpdatedNames<'p> {
         }
     }
 
-    /// Whether the point with this number asks for an answer in a frame. It takes no memory.
-    pub fn asks(&self, origin: Provenance, k: u32) -> bool
+    // Whether the point with this number asks for an answer in a frame.
+    fn asks(&self, origin: Provenance, k: u32) -> bool
         ensures { result ≡ (may_update (provenance_of origin) &&
             (is_old (state_in self.now).now && (world_of (world_in self.now)).permits k)) }
     {
@@ -119,28 +101,148 @@ impl<'p> UpdatedNames<'p> {
         may_update && self.is_old() && self.meanings.world().points().permits(k)
     }
 
-    /// Makes the new version the current one, with its cells at their initial values. The only error
-    /// is want of memory, and nothing has changed then.
-    pub fn update(&mut self, alloc: Global) -> Result<(), AllocError>
-        ensures updated { OnOk result (state_in self.new ≡ swapped_state (world_of (world_in self.old)) (state_in self.old)) }
-        ensures kept { OnErr result (state_in self.new ≡ state_in self.old) }
-        ensures world { world_in self.new ≡ world_in self.old }
+    // Whether a function is the same as one in an expression.
+    fn is_same(
+        &self,
+        origin: Provenance,
+        left: Function<'_>,
+        right: Callee<'_, Function<'p>>,
+    ) -> bool
+        ensures { result ≡ same_linked (function_at left.entry)
+            (seen_callee function_at ((rules_in self.now).access.code (provenance_of origin) (state_in self.now)) right.entry) }
     {
-        self.state.update(alloc, &self.meanings)
+        match right {
+            Callee::Known(right) => left.same(right),
+            Callee::Named(right) => left.same(self.meanings.function(origin, right)),
+        }
+    }
+}
+
+impl<'p> Look for UpdatedNames<'p> {
+    ghost use Rattle.version_names.specs.Home.{Linked};
+    ghost use Rattle.version_names.specs.Provenance as origins;
+    ghost use Rattle.update_semantics.specs.UpdatingRun as run;
+    ghost use Rattle.update_semantics.specs.Code.Environments.{seen_in};
+
+    type Function = Function<'p>;
+
+    type Origin = Provenance;
+
+    ghost F = { Linked };
+
+    ghost O = { origins.Provenance };
+
+    ghost State = { run.State };
+
+    ghost seen = { seen_in };
+
+    ghost rules = { rules_in };
+
+    ghost state = { state_in };
+
+    fn value(&self, origin: Provenance, name: &Name) -> Value<Function<'p>> {
+        self.state.value(self.meanings.cell(origin, name))
     }
 
-    /// The transformer's `dsu_transform`. It takes no memory.
-    pub fn transformer(&self) -> Definition<'p, Provenance>
-        ensures { seen_definition provenance_of result ≡ code_of (world_of (world_in self.now)) versions.New (Xform, codes "dsu_transform") }
+    fn elements<'a>(&'a self, origin: Provenance, array: &'a Name) -> &'a [i32] {
+        self.state.elements(self.meanings.cell(origin, array))
+    }
+
+    fn same(
+        &self,
+        origin: Provenance,
+        left: Callee<'_, Function<'p>>,
+        right: Callee<'_, Function<'p>>,
+    ) -> bool
+        ensures { result ≡ (rules_in self.now).access.same
+            (seen_callee function_at ((rules_in self.now).access.code (provenance_of origin) (state_in self.now)) left.entry)
+            (seen_callee function_at ((rules_in self.now).access.code (provenance_of origin) (state_in self.now)) right.entry) }
     {
+        match left {
+            Callee::Known(left) => self.is_same(origin, left, right),
+            Callee::Named(left) => self.is_same(
+                origin,
+                self.meanings.function(origin, left),
+                right,
+            ),
+        }
+    }
+}
+
+impl<'p> Environment<'p> for UpdatedNames<'p> {
+    fn code(&self, origin: Provenance, name: &'p Name) -> Function<'p> {
+        self.meanings.function(origin, name)
+    }
+
+    fn enter(&self, function: Function<'p>) -> Definition<'p, Provenance> {
+        self.meanings.code(self.state.version, function)
+    }
+
+    fn decide(&self, origin: Provenance, statement: &'p Stmt) -> Decision<'p> {
+        match statement {
+            Stmt::Point { k, .. } => {
+                if self.asks(origin, *k) {
+                    Decision::Ask(*k)
+                } else {
+                    Decision::Skip
+                }
+            }
+            Stmt::Force { .. } => {
+                if self.is_old() {
+                    Decision::Update
+                } else {
+                    Decision::Skip
+                }
+            }
+            Stmt::Pick { after, before, .. } => {
+                if self.is_old() {
+                    picked(before.get())
+                } else {
+                    picked(after.get())
+                }
+            }
+            Stmt::Skip { .. }
+            | Stmt::Set { .. }
+            | Stmt::SetElem { .. }
+            | Stmt::Call { .. }
+            | Stmt::CallBy { .. }
+            | Stmt::If { .. }
+            | Stmt::While { .. }
+            | Stmt::Break { .. }
+            | Stmt::Return { .. }
+            | Stmt::Assert { .. }
+            | Stmt::Input { .. }
+            | Stmt::Output { .. }
+            | Stmt::Choice { .. } => Decision::Skip,
+        }
+    }
+
+    fn transformer(&self) -> Definition<'p, Provenance> {
         self.meanings
             .code(Version::New, Function::Own(b"dsu_transform"))
     }
 
-    /// The old version's `main`. It takes no memory.
-    pub fn main(&self) -> Definition<'p, Provenance>
-        ensures { seen_definition provenance_of result ≡ entry_code (world_of (world_in self.now)) None }
+    fn put(
+        &mut self,
+        origin: Provenance,
+        name: &'p Name,
+        value: Value<Function<'p>>,
+    ) -> Result<(), AllocError>
+        ensures rules { rules_in self.new ≡ rules_in self.old }
+        ensures put { OnOk result (state_in self.new ≡ (rules_in self.old).access.put
+            (provenance_of origin) name.entry.now (seen_value function_at value.entry) (state_in self.old)) }
+        ensures kept { OnErr result (state_in self.new ≡ state_in self.old) }
     {
-        self.meanings.version_code(Version::Old, b"main")
+        let cell = self.meanings.cell(origin, name);
+        self.state.put(cell, value)
+    }
+
+    fn set_element(&mut self, origin: Provenance, array: &'p Name, at: i32, element: i32) -> bool {
+        let cell = self.meanings.cell(origin, array);
+        self.state.set_element(cell, at, element)
+    }
+
+    fn update(&mut self, alloc: Global) -> Result<(), AllocError> {
+        self.state.update(alloc, &self.meanings)
     }
 }

@@ -1,16 +1,17 @@
-//! Runs of an old program that is updated once at most.
+//! Runs of an old program that is updated to a new one once at most.
+//!
+//! A `World` has both programs and what the update takes. `UpdMachine` makes a run's steps: it is the
+//! machine of `plain_run` over names that stand for cells and functions of either version.
 #![tactic(auto)]
 
 mod cells;
 mod declared;
 mod environment;
 mod linked;
+mod machine;
 mod meanings;
 mod state;
-mod value;
 mod world;
 
-pub use environment::UpdatedNames;
-pub use linked::{Function, Linked, Provenance};
-pub use value::Value;
+pub use machine::UpdMachine;
 pub use world::World;

@@ -7,15 +7,15 @@ ghost use Rattle.version_names.specs.Parts.{version_of};
 ghost use Rattle.version_names.specs.Home.{Both, same_home};
 ghost use Rattle.version_names.specs.Version as versions;
 ghost use Rattle.update_semantics.specs.Code.Linked.{home_at, linked_at, function_at, provenance_of, home_in, declared_name, program_of, own_home, alone};
-ghost use Rattle.update_semantics.specs.Code.Values.{seen_definition};
+ghost use Rattle.plain_run.specs.Environments.{seen_definition};
 ghost use Rattle.update_semantics.specs.UpdatingRun.{linked_by_prefix, cell_meaning, function_meaning, version_code, code_of};
 ghost use Rattle.update_semantics.specs.Worlds.{world_of};
 
 use crate::declared::Declared;
 use crate::linked::{Function, Linked, Provenance};
-use crate::value::Definition;
 use crate::world::World;
 use c_lang::{Name, Program};
+use plain_run::Definition;
 use std::alloc::{AllocError, Global};
 use std::marker::Model;
 use version_names::{Part, Sort2, Version};
@@ -122,8 +122,8 @@ impl<'p> Meanings<'p> {
     }
 
     // The name as a version declares it, given its bytes.
-    fn declared(&self, version: Version, sort: Sort2, name: &'p [u8]) -> Option<&'p Name>
-        ensures { option_copied result ≡ declared_name (program_of self.now version) sort name.entry.now }
+    fn declared(&self, version: Version, sort: Sort2, name: &[u8]) -> Option<&'p Name>
+        ensures { option_copied result ≡ declared_name (program_of self.now version) sort name.now }
     {
         match version {
             Version::Old => self.first.name(sort, name),
@@ -132,8 +132,8 @@ impl<'p> Meanings<'p> {
     }
 
     // The same as `part` for a name of which only the bytes are given.
-    fn part_of_bytes(&self, version: Version, sort: Sort2, name: &'p [u8]) -> Option<Part>
-        ensures { home_at result ≡ home_in (world_of self.now) sort (version_of version) name.entry.now }
+    fn part_of_bytes(&self, version: Version, sort: Sort2, name: &[u8]) -> Option<Part>
+        ensures { home_at result ≡ home_in (world_of self.now) sort (version_of version) name.now }
     {
         match self.declared(version, sort, name) {
             Some(name) => self.part(version, sort, name),
@@ -142,7 +142,13 @@ impl<'p> Meanings<'p> {
     }
 
     // The name behind a version's prefix, where that version alone has it.
-    fn alone(&self, version: Version, sort: Sort2, behind: &'p [u8], name: &'p [u8]) -> Linked<'p>
+    fn alone<'a>(
+        &self,
+        version: Version,
+        sort: Sort2,
+        behind: &'a [u8],
+        name: &'a [u8],
+    ) -> Linked<'a>
         ensures { linked_at result ≡ alone (home_in (world_of self.now) sort) version behind.entry.now name.entry.now }
     {
         let part = self.part_of_bytes(version, sort, behind);
@@ -154,7 +160,7 @@ impl<'p> Meanings<'p> {
     }
 
     // What a name stands for in the transformer, if it is none of its own.
-    fn linked_by_prefix(&self, sort: Sort2, name: &'p Name) -> Linked<'p>
+    fn linked_by_prefix<'a>(&self, sort: Sort2, name: &'a Name) -> Linked<'a>
         ensures { linked_at result ≡ linked_by_prefix (home_in (world_of self.now) sort) name.entry.now }
     {
         let part = self.part(Version::Old, sort, name);
@@ -172,7 +178,7 @@ impl<'p> Meanings<'p> {
     }
 
     // A name of a version.
-    fn linked(&self, version: Version, sort: Sort2, name: &'p Name) -> Linked<'p>
+    fn linked<'a>(&self, version: Version, sort: Sort2, name: &'a Name) -> Linked<'a>
         ensures { linked_at result ≡ (home_in (world_of self.now) sort (version_of version) name.entry.now, name.entry.now) }
     {
         Linked {
@@ -182,7 +188,7 @@ impl<'p> Meanings<'p> {
     }
 
     /// The cell that a name stands for in a frame. It takes no memory.
-    pub fn cell(&self, origin: Provenance, name: &'p Name) -> Linked<'p>
+    pub fn cell<'a>(&self, origin: Provenance, name: &'a Name) -> Linked<'a>
         ensures { linked_at result ≡ cell_meaning (world_of self.now) (provenance_of origin) name.entry.now }
     {
         match origin {
@@ -194,7 +200,7 @@ impl<'p> Meanings<'p> {
 
     /// The function that a name stands for in a frame, whatever version is the current one. It takes
     /// no memory.
-    pub fn function(&self, origin: Provenance, name: &'p Name) -> Function<'p>
+    pub fn function<'a>(&self, origin: Provenance, name: &'a Name) -> Function<'a>
         ensures { (now : versions.Version) → function_at result ≡
             function_meaning (world_of self.now) (provenance_of origin) now name.entry.now }
     {
@@ -209,8 +215,8 @@ impl<'p> Meanings<'p> {
     }
 
     /// The function of a version. It takes no memory.
-    pub fn version_code(&self, version: Version, name: &'p [u8]) -> Definition<'p, Provenance>
-        ensures { seen_definition provenance_of result ≡ version_code (world_of self.now) (version_of version) name.entry.now }
+    pub fn version_code(&self, version: Version, name: &[u8]) -> Definition<'p, Provenance>
+        ensures { seen_definition provenance_of result ≡ version_code (world_of self.now) (version_of version) name.now }
     {
         match version {
             Version::Old => Definition {
@@ -226,7 +232,7 @@ impl<'p> Meanings<'p> {
 
     /// Where the body of a function was written, and the function as it is there, while a version is
     /// the current one; no function where nothing declares it. It takes no memory.
-    pub fn code(&self, now: Version, function: Function<'p>) -> Definition<'p, Provenance>
+    pub fn code(&self, now: Version, function: Function<'_>) -> Definition<'p, Provenance>
         ensures { seen_definition provenance_of result ≡ code_of (world_of self.now) (version_of now) (function_at function.entry) }
     {
         match function {

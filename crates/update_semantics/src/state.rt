@@ -1,16 +1,16 @@
 //! What all frames of an updating run share.
 
 ghost use Rattle.std.specs.Prelude.{◌≡◌, IfOk, OnOk, OnErr};
-ghost use Rattle.update_semantics.specs.Code.Cells.{state_of, values_of, arrays_of, SetsElement};
+ghost use Rattle.update_semantics.specs.Code.Cells.{state_of, values_of, arrays_of, SetsCell};
 ghost use Rattle.update_semantics.specs.Code.Linked.{home_at, linked_at, function_at};
-ghost use Rattle.update_semantics.specs.Code.Values.{seen_value};
+ghost use Rattle.plain_run.specs.Values.{seen_value};
 ghost use Rattle.update_semantics.specs.UpdatingRun.{put_linked, first_state, swapped_state};
 ghost use Rattle.update_semantics.specs.Worlds.{world_of};
 
 use crate::cells::Cells;
 use crate::linked::{Function, Linked};
 use crate::meanings::Meanings;
-use crate::value::Value;
+use plain_run::Value;
 use std::alloc::{AllocError, Global};
 use version_names::{Part, Version};
 
@@ -65,14 +65,14 @@ impl<'p> State<'p> {
     }
 
     /// The value of a cell. It takes no memory.
-    pub fn value(&self, cell: Linked<'p>) -> Value<Function<'p>>
+    pub fn value(&self, cell: Linked<'_>) -> Value<Function<'p>>
         ensures { seen_value function_at result ≡ (state_of self.now).values (home_at cell.entry.part) cell.entry.name.now }
     {
         self.cells(cell.part).value(cell.name)
     }
 
     /// The elements of a cell. It takes no memory.
-    pub fn elements(&self, cell: Linked<'p>) -> &[i32]
+    pub fn elements(&self, cell: Linked<'_>) -> &[i32]
         ensures { result.now ≡ (state_of self.now).arrays (home_at cell.entry.part) cell.entry.name.now }
     {
         self.cells(cell.part).elements(cell.name)
@@ -94,7 +94,7 @@ impl<'p> State<'p> {
     /// Writes an element of a cell, where the index is within the bounds, and says whether it is. It
     /// takes no memory.
     pub fn set_element(&mut self, cell: Linked<'p>, at: i32, element: i32) -> bool
-        ensures { SetsElement (state_of self.old) (linked_at cell.entry) at element result (state_of self.new) }
+        ensures { SetsCell (state_of self.old) (linked_at cell.entry) at element result (state_of self.new) }
     {
         match cell.part {
             Some(Part::Both) => self.shared.set_element(cell.name, at, element),

@@ -1,5 +1,4 @@
-use Rattle.std.proofs.Common.{◌≡◌, ◌≤◌, drop, length}
-use Rattle.c_lang.specs.Names.{Bytes}
+use Rattle.std.proofs.Common.{◌≤◌, drop, length}
 use Rattle.update_semantics.specs.Code.Cells.{HasArraysOf}
 use Rattle.update_semantics.proofs.cells.initial_arrays.Given as goal
 

@@ -1,4 +1,4 @@
-use Rattle.std.proofs.Common.{drop, arith, refl, sym, subst}
+use Rattle.std.proofs.Common.{drop, arith, sym, subst}
 use Rattle.plain_run.proofs.TableLaws.{drop-front}
 use Rattle.update_semantics.specs.Code.Cells.{HasValuesOf}
 use Rattle.update_semantics.proofs.CellLaws.{HasValues-more}

@@ -2,7 +2,7 @@ use Rattle.std.proofs.Common.{drop, arith, refl, sym, subst}
 use Rattle.std.specs.Option.{option_map}
 use Rattle.c_lang.specs.Programs.{func_named}
 use Rattle.plain_run.proofs.TableLaws.{drop-front, IsFilled-more}
-use Rattle.update_semantics.specs.Code.Tables.{HasFuncs}
+use Rattle.plain_run.specs.Code.Tables.{HasFuncs}
 use Rattle.update_semantics.proofs.declared.funcs_by_name.Goals as goal
 
 pub loop-left-preserved : goal.loop-left-preserved

@@ -1,5 +1,5 @@
 use Rattle.std.proofs.Common.{◌≤◌, drop, length}
-use Rattle.update_semantics.specs.Code.Tables.{HasFuncs}
+use Rattle.plain_run.specs.Code.Tables.{HasFuncs}
 use Rattle.update_semantics.proofs.declared.funcs_by_name.Given as goal
 
 abbrev pub invariant-loop-left : goal.invariant-loop-left

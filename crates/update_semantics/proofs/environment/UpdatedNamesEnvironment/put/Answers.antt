@@ -1,10 +1,10 @@
 use Rattle.std.proofs.Common.{◌≡◌, OnOk, subst}
+use Rattle.plain_run.specs.Values.{seen_value}
 use Rattle.update_semantics.specs.Code.Cells.{state_of}
 use Rattle.update_semantics.specs.Code.Environments.{state_in}
 use Rattle.update_semantics.specs.Code.Linked.{function_at}
-use Rattle.update_semantics.specs.Code.Values.{seen_value}
 use Rattle.update_semantics.specs.UpdatingRun.{put_linked}
-use Rattle.update_semantics.proofs.environment.UpdatedNames.put.Goals as goal
+use Rattle.update_semantics.proofs.environment.UpdatedNamesEnvironment.put.Goals as goal
 
 pub returns-clause-put : goal.returns-clause-put
 returns-clause-put c =
