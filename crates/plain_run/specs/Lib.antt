@@ -6,4 +6,5 @@ pub mod Environments
 pub mod Stacks
 pub mod Runs
 pub mod PlainEnvironments
+pub mod Machines
 pub mod Code

@@ -1,7 +1,8 @@
-//! Runs a program that knows no update, statement by statement.
+//! Runs of programs, statement by statement: the steps of every machine of the language (`Run`, over an
+//! `Environment`), and the machine of programs that know no update.
 //!
-//! A step is in two halves: `action` finds what the next statement asks for and only reads, and
-//! `machine` does it. What can fail for want of memory comes before the first write.
+//! A step is in two halves: `action` finds what the next statement asks for and only reads, and `run`
+//! does it. What can fail for want of memory comes before the first write.
 #![tactic(auto)]
 
 mod action;
@@ -12,6 +13,7 @@ mod eval;
 mod frame;
 mod indexed;
 mod initial;
+mod machine;
 mod names;
 mod plain;
 mod run;
@@ -21,6 +23,7 @@ mod value;
 
 pub use answers::Answers;
 pub use environment::{Callee, Decision, Definition, Environment, Look};
+pub use machine::Machine;
 pub use plain::Plain;
 pub use run::Run;
 pub use step::{RunError, Step};

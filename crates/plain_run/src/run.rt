@@ -23,8 +23,7 @@ use std::alloc::{AllocError, Global};
 use std::mem;
 
 /// A run over an environment. Contracts see its configuration by `config_with`, and the step that
-/// comes next by `move_with`.
-#[derive(Drop)]
+/// comes next by `move_with`. What keeps one lets its parts go one by one.
 pub struct Run<'p, E: Environment<'p>> {
     pub environment: E,
     pub stack: Stack<'p, E::Function, E::Origin>,

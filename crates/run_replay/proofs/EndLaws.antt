@@ -51,7 +51,13 @@ module _ {F G O : Type 0} (N : Access F G O) (special : Special N)
   step_shows (Live g f fs) a s d b shown h shows =
       move_shows (steps.step_with N special (Live g f fs)) (Live g f fs) a s d b shown (step_ends N special special_ends (Live g f fs) tt) h shows
 
-stopped_rests : {C : Type 0} (m : Move C) (c : C) (a : List ℤ) (d : C) (b : List ℤ) → Makes m c a Stopped d b → m ≡ Rests
+module _ {F G O : Type 0} (N : Access F G O) (special : Special N)
+    (special_ends : (g : G) (f : Frame F O) (fs : List (Frame F O)) (l : Stmt-F Stmt) → EndsRightly (special g f fs l)) where
+  pub rests_when_over : (c : Config F G O) → steps.step_with N special c ≡ Rests → c ≡ Over
+  rests_when_over Over is = refl
+  rests_when_over (Live g f fs) is = absurd (subst (λ (m : Move (Config F G O)). EndsRightly m) is (step_ends N special special_ends (Live g f fs) tt))
+
+pub stopped_rests : {C : Type 0} (m : Move C) (c : C) (a : List ℤ) (d : C) (b : List ℤ) → Makes m c a Stopped d b → m ≡ Rests
 stopped_rests Rests c a d b h = refl
 stopped_rests (Goes [] next) c a d b h = absurd h
 stopped_rests (Goes (e ∷ []) next) c a d b h = absurd h

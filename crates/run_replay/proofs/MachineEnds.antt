@@ -1,5 +1,7 @@
--- In plain and in updating runs a step that ends a run shows that.
-use Rattle.std.proofs.Common.{ℕ, Bool, true, false, List}
+-- In plain and in updating runs a step that ends a run shows that, and only a run that is over rests.
+use Rattle.std.proofs.Common.{◌≡◌, ◌&&◌, List, subst}
+use Rattle.plain_run.specs.Environments.{Rules}
+use Rattle.plain_run.specs.Steps.{Config}
 use Rattle.c_lang.specs.declared.program.Program.{Program}
 use Rattle.c_lang.specs.declared.stmt.Stmt.{Stmt, out-Stmt}
 use Rattle.c_lang.specs.declared.stmt.Stmt.TheOpen.{Stmt-F}
@@ -9,12 +11,15 @@ use Rattle.version_names.specs.Version.{is_old}
 use Rattle.version_names.specs.Provenance.{may_update}
 use Rattle.plain_run.specs.PlainRun.{plain_access, dropped, step}
 use Rattle.update_semantics.specs.UpdatingRun.{World, State, UpdFrame, updating_access, update, nothing_special, picked, swapped, step_updating}
-use Rattle.run_replay.specs.Code.After.{ShowsEnds}
+use Rattle.run_replay.specs.Code.After.{ShowsEnds, RestsWhenOver}
 use Rattle.run_replay.proofs.MoveLaws.{EndsRightly, either_live, act_ends, either_ends}
-use Rattle.run_replay.proofs.EndLaws.{step_shows}
+use Rattle.run_replay.proofs.EndLaws.{step_shows, rests_when_over}
 
 pub plain_ends : (P : Program) → ShowsEnds (step P)
 plain_ends P = step_shows (plain_access P) (dropped P) (λ g f fs l. tt)
+
+pub plain_rests : (P : Program) → RestsWhenOver (step P)
+plain_rests P = rests_when_over (plain_access P) (dropped P) (λ g f fs l. tt)
 
 module _ (W : World) where
   picked_ends : (g : State) (f : UpdFrame) (fs : List UpdFrame) (s : Stmt) (l : Stmt-F Stmt) → EndsRightly (picked W g f fs s l)
@@ -56,3 +61,10 @@ module _ (W : World) where
 
   pub updating_ends : ShowsEnds (step_updating W)
   updating_ends = step_shows (updating_access W) (update W) update_ends
+
+  pub updating_rests : RestsWhenOver (step_updating W)
+  updating_rests = rests_when_over (updating_access W) (update W) update_ends
+
+-- what holds by rules and a configuration holds by equal ones
+pub by_rules : {F G O : Type 0} {R S : Rules F G O} {c d : Config F G O} → R ≡ S → c ≡ d → (P : Rules F G O → Config F G O → Type 0) → P R c → P S d
+by_rules {F} {G} {O} {R} {S} {c} {d} rules config P h = subst (λ (X : Rules F G O). P X d) rules (subst (λ (x : Config F G O). P R x) config h)

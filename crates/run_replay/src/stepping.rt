@@ -34,8 +34,9 @@ pub(crate) trait Stepping: Drop {
 
 impl Stepping for Machine<'_> {
     ghost use Rattle.c_lang.specs.Names.{Bytes};
-    ghost use Rattle.plain_run.specs.Machines.{config_of, program_of};
+    ghost use Rattle.plain_run.specs.Machines.{config_of, rules_in};
     ghost use Rattle.plain_run.specs.PlainRun as plain;
+    ghost use Rattle.plain_run.specs.Steps.{step_with};
 
     ghost F = { Bytes };
 
@@ -43,7 +44,7 @@ impl Stepping for Machine<'_> {
 
     ghost O = { ⊤ };
 
-    ghost next = { λ m. plain.step (program_of m) };
+    ghost next = { λ m. step_with (rules_in m).access (rules_in m).special };
 
     ghost config = { config_of };
 

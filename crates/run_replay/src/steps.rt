@@ -6,7 +6,7 @@ ghost use Rattle.c_lang.specs.declared.event.Event.{Event};
 ghost use Rattle.plain_run.specs.Moves.{events_of};
 ghost use Rattle.plain_run.specs.Runs.{frame_count};
 ghost use Rattle.run_replay.specs.Closes.{EndsWith, IsClose, IsEnd, IsLast, ShowsItsEnd};
-ghost use Rattle.run_replay.specs.Code.After.{IsAfter, IsLive, ShowsEnds};
+ghost use Rattle.run_replay.specs.Code.After.{IsAfter, IsLive, RestsWhenOver, ShowsEnds};
 ghost use Rattle.run_replay.specs.Replays.{IsRunClose, RunGetsDeep, RunStaysShallow};
 
 use crate::replay::{Close, Replay};
@@ -45,7 +45,8 @@ fn close_of<M: Stepping>(
     answers: &mut Answers,
     events: &[Event],
 ) -> Result<Close, AllocError>
-    requires { ShowsItsEnd (M.config machine.old) events.now }
+    requires shown { ShowsItsEnd (M.config machine.old) events.now }
+    requires rests { RestsWhenOver (M.next machine.old) }
     ensures { IfOk result (λ close. IsClose (M.next machine.old (M.config machine.old)) answers.old events.now close) }
 {
     match machine.advance(alloc, answers) {
@@ -99,6 +100,7 @@ pub(crate) fn replay_run<M: Stepping>(
     requires shallow { frame_count (M.config machine.old) ≤ frame_limit }
     requires live { IsLive (M.config machine.old) }
     requires ends { ShowsEnds (M.next machine.old) }
+    requires rests { RestsWhenOver (M.next machine.old) }
     ensures events { IfOk result (λ replay.
         replay.events.items ≡ events_of (M.next machine.old) steps (M.config machine.old) answers.now) }
     ensures close { IfOk result (λ replay.

@@ -13,7 +13,7 @@ use Rattle.top_call.specs.Held.{IsHeld}
 use Rattle.front_end.specs.Conditions.{AllHold}
 use Rattle.front_end.proofs.ConditionLemmas.{all-first, no-refusal}
 use Rattle.front_end.specs.Worlds.{Texts, size_conditions}
-use Rattle.top_call.specs.Merge.{AreHeld, MergeAllows, conditions}
+use Rattle.top_call.specs.Merge.{AreHeld, MergeAllows, form_conditions, name_conditions, conditions}
 use Rattle.top_call.specs.MergedText.{IsMergedText}
 use Rattle.top_call.specs.Around.{Around, Put}
 use Rattle.top_call.specs.Outcome.{Outcome}
@@ -65,10 +65,10 @@ module _ (around : Around) (update : UpdateFiles) (texts : Texts) (hold : Hold a
       (read-accepted around.held Xform update.xform read.xform texts.xform held.xform hold.xform xform))
 
   accepted-whole : (read : Texts) → AreHeld around.held update read → AllHold (conditions read) → read ≡ texts
-  accepted-whole read held all = whole-within read held (all-first (size_conditions read) _ all)
+  accepted-whole read held all = whole-within read held (all-first (size_conditions read) (form_conditions read ++ name_conditions read) all)
 
   whole-if-accepted : (read : Texts) → AreHeld around.held update read → AllHold (conditions texts) → texts ≡ read
-  whole-if-accepted read held all = within-whole read held (all-first (size_conditions texts) _ all)
+  whole-if-accepted read held all = within-whole read held (all-first (size_conditions texts) (form_conditions texts ++ name_conditions texts) all)
 
   written-text : (written : Text) → around.written_before ≡ Some written
       → (reply : Reply) → MergeAllows around.held update reply → reply.status ≡ Done → Put around reply.text

@@ -1,8 +1,8 @@
 -- What follows from the outcome of `replay` where files and sink tell their bytes.
-use Rattle.std.proofs.Common.{◌≡◌, ◌∙◌, ◌++◌, Option, Some, sym, ap, refl, subst, inl, inr}
+use Rattle.std.proofs.Common.{◌≡◌, ◌∙◌, ◌++◌, List, Option, Some, sym, ap, refl, subst, inl, inr}
 use Rattle.std.specs.Prelude.{◌⊎◌}
-use Rattle.front_end.specs.Conditions.{AllHold}
-use Rattle.front_end.specs.Worlds.{Texts, size_conditions, conditions}
+use Rattle.front_end.specs.Conditions.{Condition, AllHold}
+use Rattle.front_end.specs.Worlds.{Texts, size_conditions, token_conditions, grammar_conditions, type_conditions, update_conditions, conditions}
 use Rattle.front_end.proofs.ConditionLemmas.{all-first, no-refusal}
 use Rattle.top_call.specs.Words.{Text, ReplayRequest, Request, Replay}
 use Rattle.top_call.specs.Replies.{Reply}
@@ -16,9 +16,12 @@ use Rattle.top_call.specs.declared.status.Status.TheVariants.{Done, NotProved, R
 use Rattle.top_call.proofs.HeadlineLemmas.{whole-within, within-whole, appended}
 
 module _ (around : Around) (replay : ReplayRequest) (ts : Texts) (hold : Hold around replay.files ts) where
+  abbrev behind_sizes : Texts → List Condition
+  behind_sizes read = token_conditions read ++ grammar_conditions read ++ type_conditions read ++ update_conditions replay.points read
+
   -- the texts that were read, where they are a world
   whole : (read : Texts) → AreHeld around.held replay.files read → AllHold (conditions replay.points read) → read ≡ ts
-  whole read held all = whole-within around replay.files ts hold read held (all-first (size_conditions read) _ all)
+  whole read held all = whole-within around replay.files ts hold read held (all-first (size_conditions read) (behind_sizes read) all)
 
   written-events : (written : Text) → around.written_before ≡ Some written
       → (reply : Reply) → ReplayAllows around.held replay reply → reply.status ≡ Done → Put around reply.text
@@ -35,7 +38,7 @@ module _ (around : Around) (replay : ReplayRequest) (ts : Texts) (hold : Hold ar
 
   module _ (all : AllHold (conditions replay.points ts)) where
     read-is : (read : Texts) → AreHeld around.held replay.files read → ts ≡ read
-    read-is read held = within-whole around replay.files ts hold read held (all-first (size_conditions ts) _ all)
+    read-is read held = within-whole around replay.files ts hold read held (all-first (size_conditions ts) (behind_sizes ts) all)
 
     reply-is-done : (reply : Reply) → ReplayAllows around.held replay reply → reply.status ≡ Done
     reply-is-done reply (read, held, replays) = elim replays [

@@ -14,9 +14,17 @@ use std::alloc::{AllocError, Global};
 
 /// A run of a world's old program, which is updated to the new one once at most. Contracts see its
 /// configuration as `config_of`, and the rules of its world as `rules_in`.
-#[derive(Drop)]
 pub struct UpdMachine<'p> {
     run: Run<'p, UpdatedNames<'p>>,
+}
+
+impl Drop for UpdMachine<'_> {
+    fn drop(self) {
+        let UpdMachine { run } = self;
+        let Run { environment, stack } = run;
+        drop(environment);
+        drop(stack);
+    }
 }
 
 impl<'p> UpdMachine<'p> {

@@ -1,7 +1,7 @@
 -- A run after some steps.
 use Rattle.std.specs.Prelude.{◌≡◌, ℕ, ℤ, List, [], ◌∷◌, ◌++◌}
 use Rattle.c_lang.specs.declared.event.Event.{Event}
-use Rattle.plain_run.specs.Moves.{Move, events_of}
+use Rattle.plain_run.specs.Moves.{Move, Rests, events_of}
 use Rattle.plain_run.specs.Steps.{Config, Live, Over}
 use Rattle.plain_run.specs.Runs.{Makes}
 use Rattle.plain_run.specs.declared.step.Step.{Step}
@@ -34,3 +34,7 @@ abbrev pub ShowsEnds : {F G O : Type 0} → (Config F G O → Move (Config F G O
 ShowsEnds {F} {G} {O} next =
     (c : Config F G O) (a : List ℤ) (s : Step) (d : Config F G O) (b : List ℤ) (shown : List Event)
     → Makes (next c) c a s d b → ShowsItsEnd c shown → ShowsItsEnd d (shown ++ shown_of s)
+
+-- it rests exactly where it is over
+abbrev pub RestsWhenOver : {F G O : Type 0} → (Config F G O → Move (Config F G O)) → Type 0
+RestsWhenOver {F} {G} {O} next = (c : Config F G O) → next c ≡ Rests → c ≡ Over
