@@ -127,11 +127,7 @@ fn parse_texts(alloc: Global, tokens: &Tokens) -> Result<Programs, Fail>
     Ok(Programs { old, new, xform })
 }
 
-fn check_versions(
-    alloc: Global,
-    old: Boxed<Program>,
-    new: Boxed<Program>,
-) -> Result<Versions, Fail>
+fn check_versions(alloc: Global, old: Boxed<Program>, new: Boxed<Program>) -> Result<Versions, Fail>
     requires old { IsWritten unit.Old old }
     requires new { IsWritten unit.New new }
     ensures { (ts : spec.Texts) → AllHold (spec.size_conditions ts) → AreSources ts old new
@@ -151,11 +147,7 @@ fn version_of(alloc: Global, unit: Unit, program: Boxed<Program>) -> Result<Boxe
     Ok(Boxed::new(alloc, typed)?)
 }
 
-fn points_of(
-    alloc: Global,
-    old: &Typed,
-    listed: Option<&[u32]>,
-) -> Result<Boxed<Points>, Fail>
+fn points_of(alloc: Global, old: &Typed, listed: Option<&[u32]>) -> Result<Boxed<Points>, Fail>
     ensures { IsListed (all_points old.now.program None) (option_copied listed.entry) result }
 {
     let points = list_points(alloc, old.program(), None, listed)?;
@@ -175,7 +167,7 @@ fn make_world(
     requires written { IsWritten unit.Xform xform }
     ensures { (ts : spec.Texts) → AreTyped ts versions → spec.ParsesXform ts xform
         → MatchResult result (λ world. spec.IsWorldOf (option_copied listed.entry) ts (world_of world))
-            (IsRefusedBy (spec.update_conditions (option_copied listed.entry) ts)) }
+        (IsRefusedBy (spec.update_conditions (option_copied listed.entry) ts)) }
 {
     let points = points_of(alloc, versions.old.get(), listed)?;
     let links = Boxed::new(alloc, link(alloc, versions.old.get(), versions.new.get())?)?;

@@ -59,8 +59,7 @@ module _ {X Y F G O : Type 0} (see : Sees X Y F O) (R : Rules F G O) (g h : G) (
       → steps.stored R.access g (seen_frame see frame) (seen_frames see rest) (dest_of top.dest) (seen_value see.function w) ≡ Live h (seen_frame see stored) (seen_frames see rest)
       → Makes (done R g (behind_statement see top) (seen_frames see below) (Return v)) c a Quiet left a
   hands v w c a live popped gives is =
-      subst (λ fs. Makes (steps.handed R.access g (dest_of top.dest) (steps.given R.access top.gives v) fs) c a Quiet left a) (sym (seen_frames-push see rest below frame popped))
-      (
+      subst (λ fs. Makes (steps.handed R.access g (dest_of top.dest) (steps.given R.access top.gives v) fs) c a Quiet left a) (sym (seen_frames-push see rest below frame popped)) (
         ap (λ b. config_if b (Live h (seen_frame see stored) (seen_frames see rest))) live ∙ sym is
             ∙ ap (λ x. steps.stored R.access g (seen_frame see frame) (seen_frames see rest) (dest_of top.dest) x) gives,
         refl,

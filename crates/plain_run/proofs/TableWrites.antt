@@ -39,8 +39,7 @@ module _ (old new : Arrays) (a : Bytes) (elements elements' : Vec ℤ Global) (t
       → (written ≡ false → elements'.items ≡ elements.items) → SetsElement (plain_access P) tt (store_with values old) a at z written (store_with values new)
   sets_element P values at z true within outside =
       (elements'.items, ap (λ r. elements_with r at z) array_there ∙ within, ap (λ arrays. record { values = seen_values plain_function values; arrays = arrays }) seen_arrays-set)
-  sets_element P values at z false within outside =
-      (
-        ap (λ r. elements_with r at z) array_there ∙ within,
-        ap (λ arrays. record { values = seen_values plain_function values; arrays = arrays }) (seen_arrays-set ∙ all_names _ _ (λ x. as_before x (bytes_eq a x) refl (outside refl))),
-      )
+  sets_element P values at z false within outside = (
+    ap (λ r. elements_with r at z) array_there ∙ within,
+    ap (λ arrays. record { values = seen_values plain_function values; arrays = arrays }) (seen_arrays-set ∙ all_names _ _ (λ x. as_before x (bytes_eq a x) refl (outside refl))),
+  )

@@ -125,13 +125,7 @@ pub trait Environment<'p>: Look {
         ensures kept { OnErr result (Self.state self.new ≡ Self.state self.old) };
 
     /// Writes an element where the index is within the array's bounds, and says whether it is.
-    fn set_element(
-        &mut self,
-        origin: Self::Origin,
-        array: &'p Name,
-        at: i32,
-        element: i32,
-    ) -> bool
+    fn set_element(&mut self, origin: Self::Origin, array: &'p Name, at: i32, element: i32) -> bool
         ensures rules { Self.rules self.new ≡ Self.rules self.old }
         ensures set { SetsElement (Self.rules self.old).access (Self.seen.origin origin)
             (Self.state self.old) array.entry.now at element result (Self.state self.new) };

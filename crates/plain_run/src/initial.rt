@@ -36,7 +36,10 @@ fn shape_elements(alloc: Global, shape: &Shape) -> Result<Vec<i32>, AllocError>
 }
 
 /// The values of scalars and pointers.
-pub(crate) fn initial_values(alloc: Global, globals: &[GlobalVar]) -> Result<Values<'_, &Name>, AllocError>
+pub(crate) fn initial_values(
+    alloc: Global,
+    globals: &[GlobalVar],
+) -> Result<Values<'_, &Name>, AllocError>
     ensures { IfOk result (λ values. (x : List ℕ) →
         seen_values plain_function values.entries x ≡ initial_value (λ f. f) (global_named globals.now x)) }
 {

@@ -116,12 +116,7 @@ impl<'p> Environment<'p> for Plain<'p> {
         }
     }
 
-    fn put(
-        &mut self,
-        origin: (),
-        name: &'p Name,
-        value: Value<&'p Name>,
-    ) -> Result<(), AllocError>
+    fn put(&mut self, origin: (), name: &'p Name, value: Value<&'p Name>) -> Result<(), AllocError>
         ensures rules { rules_of self.new ≡ rules_of self.old }
         ensures put { OnOk result (store_of self.new ≡ (rules_of self.old).access.put
             (plain_sees.origin origin) name.entry.now (seen_value plain_sees.function value.entry) (store_of self.old)) }

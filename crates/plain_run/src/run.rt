@@ -121,7 +121,13 @@ impl<'p, E: Environment<'p>> Run<'p, E> {
         };
         let origin = self.stack.top.origin;
         let locals = &mut self.stack.top.locals;
-        store(&mut self.environment, origin, locals, dest, Value::Num(number))?;
+        store(
+            &mut self.environment,
+            origin,
+            locals,
+            dest,
+            Value::Num(number),
+        )?;
         drop_first(&mut self.stack.top.rest);
         answers.skip();
         Ok(Step::Shown(Event::Input(number)))
@@ -186,7 +192,13 @@ impl<'p, E: Environment<'p>> Run<'p, E> {
             return Ok(Step::Shown(Event::End(given.number())));
         };
         let origin = frame.origin;
-        match store_result(&mut self.environment, origin, &mut frame.locals, dest, given) {
+        match store_result(
+            &mut self.environment,
+            origin,
+            &mut frame.locals,
+            dest,
+            given,
+        ) {
             Ok(()) => {
                 self.stack.top = frame;
                 Ok(Step::Quiet)

@@ -1,5 +1,5 @@
 -- In plain and in updating runs a step that ends a run shows that, and only a run that is over rests.
-use Rattle.std.proofs.Common.{◌≡◌, ◌&&◌, List, subst}
+use Rattle.std.proofs.Common.{◌≡◌, ◌&&◌, if◌then◌else◌, List, subst}
 use Rattle.plain_run.specs.Environments.{Rules}
 use Rattle.plain_run.specs.Steps.{Config}
 use Rattle.c_lang.specs.declared.program.Program.{Program}

@@ -71,10 +71,7 @@ fn add_file<'a>(files: &mut Vec<&'a str>, word: &'a str) -> Result<(), AllocErro
 }
 
 /// The words that are no options. The only error is want of memory.
-pub(crate) fn files_in<'a>(
-    alloc: Global,
-    words: &'a [String],
-) -> Result<Vec<&'a str>, AllocError>
+pub(crate) fn files_in<'a>(alloc: Global, words: &'a [String]) -> Result<Vec<&'a str>, AllocError>
     ensures { IfOk result (λ files. map seen_text files.items ≡ spec.chosen spec.file_in (map string_bytes words.entry.now)) }
 {
     let mut files = Vec::new(alloc);

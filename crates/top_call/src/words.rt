@@ -56,10 +56,7 @@ fn run_request<'a>(alloc: Global, words: &'a [String]) -> Result<Option<Request<
     }
 }
 
-fn replay_request<'a>(
-    alloc: Global,
-    words: &'a [String],
-) -> Result<Option<Request<'a>>, AllocError>
+fn replay_request<'a>(alloc: Global, words: &'a [String]) -> Result<Option<Request<'a>>, AllocError>
     ensures { IfOk result (λ request. option_map seen request ≡ option_map spec.Replay (spec.replay_of (map string_bytes words.entry.now))) }
 {
     match read_replay(alloc, words)? {

@@ -27,9 +27,9 @@ returns-in_err-xform c = λ ts typed parses.
     let old = c.args.versions.old in
     let new = c.args.versions.new in
     let refused =
-        subst (λ (s : Program). IsChecked old.program new.program s (Err c.in_err-xform.field-0.0)) c.into_inner.ensures
-        (subst (λ (t : TypedProgram). IsChecked old.program t.program c.into_inner.result (Err c.in_err-xform.field-0.0)) c.get-5.ensures
-        (subst (λ (t : TypedProgram). IsChecked t.program c.get-5.result.now.program c.into_inner.result (Err c.in_err-xform.field-0.0)) c.get-4.ensures c.in_err-xform.ensures)) in
+    subst (λ (s : Program). IsChecked old.program new.program s (Err c.in_err-xform.field-0.0)) c.into_inner.ensures
+    (subst (λ (t : TypedProgram). IsChecked old.program t.program c.into_inner.result (Err c.in_err-xform.field-0.0)) c.get-5.ensures
+    (subst (λ (t : TypedProgram). IsChecked t.program c.get-5.result.now.program c.into_inner.result (Err c.in_err-xform.field-0.0)) c.get-4.ensures c.in_err-xform.ensures)) in
     rw (p.1, p.2)
     (behind (has_points listed ts) (has_transformer ts ∷ []) _ (old.program, typed.versions.old, rw c.get.ensures at points)
     (transformer_refused listed ts [] old.program new.program c.args.xform _ typed.versions parses refused))
@@ -41,13 +41,13 @@ new-world-requires c =
     let new = c.args.versions.new in
     let link = c.in_ok-link.field-0 in
     let linked =
-        subst (λ (l : Links). IsLinked old.program new.program l) (sym c.in_ok-links.ensures)
-        (subst (λ (t : TypedProgram). IsLinked old.program t.program link) c.get-3.ensures
-        (subst (λ (t : TypedProgram). IsLinked t.program c.get-3.result.now.program link) c.get-2.ensures c.in_ok-link.ensures)) in
+    subst (λ (l : Links). IsLinked old.program new.program l) (sym c.in_ok-links.ensures)
+    (subst (λ (t : TypedProgram). IsLinked old.program t.program link) c.get-3.ensures
+    (subst (λ (t : TypedProgram). IsLinked t.program c.get-3.result.now.program link) c.get-2.ensures c.in_ok-link.ensures)) in
     let checked =
-        subst (λ (s : Program). IsChecked old.program new.program s (Ok c.in_ok-xform.xform)) c.into_inner.ensures
-        (subst (λ (t : TypedProgram). IsChecked old.program t.program c.into_inner.result (Ok c.in_ok-xform.xform)) c.get-5.ensures
-        (subst (λ (t : TypedProgram). IsChecked t.program c.get-5.result.now.program c.into_inner.result (Ok c.in_ok-xform.xform)) c.get-4.ensures c.in_ok-xform.ensures)) in
+    subst (λ (s : Program). IsChecked old.program new.program s (Ok c.in_ok-xform.xform)) c.into_inner.ensures
+    (subst (λ (t : TypedProgram). IsChecked old.program t.program c.into_inner.result (Ok c.in_ok-xform.xform)) c.get-5.ensures
+    (subst (λ (t : TypedProgram). IsChecked t.program c.get-5.result.now.program c.into_inner.result (Ok c.in_ok-xform.xform)) c.get-4.ensures c.in_ok-xform.ensures)) in
     rw (c.into_inner-2.ensures, c.into_inner-3.ensures, c.into_inner-4.ensures, c.into_inner-5.ensures)
     (record {
       old_unit = c.requires.old;

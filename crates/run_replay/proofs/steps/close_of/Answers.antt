@@ -10,5 +10,5 @@ end_of-requires g c =
     let m = c.args.machine.now in
     let d = c.advance.new.self in
     let made =
-        subst (λ s. Makes (M.next m (M.config m)) (M.config m) c.args.answers.now s (M.config d) c.advance.new.answers) c.in-Ok-Stopped.field-0-is c.in-Ok-Stopped.ensures.made in
+    subst (λ s. Makes (M.next m (M.config m)) (M.config m) c.args.answers.now s (M.config d) c.advance.new.answers) c.in-Ok-Stopped.field-0-is c.in-Ok-Stopped.ensures.made in
     subst (λ x. ShowsItsEnd x c.args.events.now) (c.requires.rests (M.config m) (stopped_rests _ _ _ _ _ made)) c.requires.shown
