@@ -23,7 +23,7 @@ use Rattle.c_types.specs.Endings.{can_end}
 use Rattle.c_types.specs.Statements.{block_in, entered, refusal_in}
 use Rattle.c_types.specs.Functions.{kinds_of, is_wide, any_wide, wrong_params_count, scope_of, with_param, params_block, wrong_params, is_main, wrong_end, wrong_head, body_scope, refusal_of_func}
 use Rattle.c_types.specs.Programs.{with_global, with_globals, with_func, with_funcs, outside_of, wrong_again, wrong_initial, early_number, wrong_shape, cells_of, wrong_cells, wrong_global, refusal_of_globals, wrong_match, wrong_proto, refusal_of_protos, refusal_of_funcs, has_main, wrong_main, first_early, first_line, refusal_of_declarations, refusal_of_whole, first_refusal}
-use Rattle.c_lang.specs.Limits.{cell_limit}
+use Rattle.c_lang.specs.Limits.{cell_limit, parameter_limit}
 use Rattle.c_lang.specs.Refusals as numbers
 use Rattle.c_types.specs.Typing.{IsNarrow}
 use Rattle.c_types.specs.Types.{IsInitial, IsHeld, IsTypedGlobal, AreTypedGlobals, AreNarrow, IsMatch, AreTypedProtos, AreParams, IsTypedFunc, AreTypedFuncs, Types}
@@ -124,14 +124,14 @@ none_wide : (ks : List Kind) → AreNarrow ks → any_wide ks ≡ false
 none_wide [] h = refl
 none_wide (k ∷ ks) h = rw (wide_complete k h.0) (none_wide ks h.1)
 
-count_sound : (ks : List Kind) → wrong_params_count ks ≡ None → (length ks ≤ 32) × AreNarrow ks
+count_sound : (ks : List Kind) → wrong_params_count ks ≡ None → (length ks ≤ parameter_limit) × AreNarrow ks
 count_sound ks h =
-    let q = either_false (nat_lt 32 (length ks)) (any_wide ks) (test_false (nat_lt 32 (length ks) || any_wide ks) numbers.past_limit h) in
+    let q = either_false (nat_lt parameter_limit (length ks)) (any_wide ks) (test_false (nat_lt parameter_limit (length ks) || any_wide ks) numbers.past_limit h) in
     let few = q.0 in (grind (arith, nat_tests, few), narrow_all ks q.1)
 
-count_complete : (ks : List Kind) → length ks ≤ 32 → AreNarrow ks → wrong_params_count ks ≡ None
+count_complete : (ks : List Kind) → length ks ≤ parameter_limit → AreNarrow ks → wrong_params_count ks ≡ None
 count_complete ks few narrow =
-    let e : nat_lt 32 (length ks) ≡ false = grind (arith, nat_tests, few) in rw (e, none_wide ks narrow) refl
+    let e : nat_lt parameter_limit (length ks) ≡ false = grind (arith, nat_tests, few) in rw (e, none_wide ks narrow) refl
 
 kinds_sound : (js ks : List Kind) → same_kinds js ks ≡ true → js ≡ ks
 kinds_sound [] [] h = refl

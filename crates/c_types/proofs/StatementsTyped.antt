@@ -9,6 +9,7 @@ use Rattle.c_lang.specs.declared.stmt.Dest.{Dest}
 use Rattle.c_lang.specs.declared.stmt.Dest.TheVariants.{Nowhere, Into, Fresh}
 use Rattle.c_lang.specs.declared.stmt.Kind.{Kind}
 use Rattle.c_lang.specs.declared.stmt.Kind.TheVariants.{Int, Fp}
+use Rattle.c_lang.specs.Limits.{parameter_limit}
 use Rattle.c_lang.specs.Refusals as numbers
 use Rattle.c_types.specs.Names.{Means, Cell, Array, Code, Refused, Names, found, stands_from, stands_before, smaller}
 use Rattle.c_types.specs.Scopes.{Scope, Block, in_scope, names_of, is_another, kind_of_dest, wrong_kind, wrong_fresh, wrong_target, wrong_dest, wrong_effect, names_version}
@@ -24,11 +25,11 @@ use Rattle.c_types.proofs.ExpressionsTyped.{array_sound, array_complete, typed, 
 
 pub narrow_sound : (k : Kind) → wrong_kind k ≡ None → IsNarrow k
 narrow_sound Int h = tt
-narrow_sound (Fp n) h = let e = test_false (nat_lt 32 n) numbers.past_limit h in grind (arith, nat_tests, e)
+narrow_sound (Fp n) h = let e = test_false (nat_lt parameter_limit n) numbers.past_limit h in grind (arith, nat_tests, e)
 
 pub narrow_complete : (k : Kind) → IsNarrow k → wrong_kind k ≡ None
 narrow_complete Int h = refl
-narrow_complete (Fp n) h = let e : nat_lt 32 n ≡ false = grind (arith, nat_tests, h) in rw e refl
+narrow_complete (Fp n) h = let e : nat_lt parameter_limit n ≡ false = grind (arith, nat_tests, h) in rw e refl
 
 five_tests : (a b c d e : Bool)
     → if◌then◌else◌ {A = Option ℕ} a (Some numbers.duplicate) (if b then Some numbers.duplicate else if c then Some numbers.shadowed else if d then Some numbers.shadowed else if e then Some numbers.shadowed else None) ≡ None

@@ -1,8 +1,8 @@
-//! The globals at the start of a run. Of several with one name the first counts.
+//! The scalars and pointers at the start of a run. Of several with one name the first counts.
 
 ghost use Rattle.std.specs.Prelude.{◌≡◌, IfOk, List, ℕ};
-ghost use Rattle.c_lang.specs.Programs.{global_named, initial_value, initial_elements, shape_value, shape_elements};
-ghost use Rattle.plain_run.specs.Code.Names.{plain_function, seen_values, seen_arrays};
+ghost use Rattle.c_lang.specs.Programs.{global_named, initial_value, shape_value};
+ghost use Rattle.plain_run.specs.Code.Names.{plain_function, seen_values};
 ghost use Rattle.plain_run.specs.Values.{seen_value};
 
 use crate::names::Values;
@@ -10,9 +10,6 @@ use crate::value::Value;
 use c_lang::{GlobalVar, Name, Shape};
 use indexmap::IndexMap;
 use std::alloc::{AllocError, Global};
-
-/// The elements of arrays.
-pub type Arrays<'p> = IndexMap<&'p Name, Vec<i32>>;
 
 // 0 for an array.
 fn shape_value(shape: &Shape) -> Value<&Name>
@@ -23,15 +20,6 @@ fn shape_value(shape: &Shape) -> Value<&Name>
         Shape::Arr(_) => Value::Num(0),
         Shape::Fp(_, None) => Value::Null,
         Shape::Fp(_, Some(name)) => Value::Code(name),
-    }
-}
-
-fn shape_elements(alloc: Global, shape: &Shape) -> Result<Vec<i32>, AllocError>
-    ensures { IfOk result (λ elements. elements.items ≡ shape_elements shape.now) }
-{
-    match shape {
-        Shape::Arr(elements) => Vec::from_slice(alloc, elements.as_slice()),
-        Shape::Int(_) | Shape::Fp(_, _) => Ok(Vec::new(alloc)),
     }
 }
 
@@ -51,20 +39,4 @@ pub(crate) fn initial_values(
         values.insert(&global.name, shape_value(&global.shape))?;
     }
     Ok(values)
-}
-
-/// The elements of arrays.
-pub(crate) fn initial_arrays(alloc: Global, globals: &[GlobalVar]) -> Result<Arrays<'_>, AllocError>
-    ensures { IfOk result (λ arrays. (x : List ℕ) →
-        seen_arrays arrays.entries x ≡ initial_elements (global_named globals.now x)) }
-{
-    let mut arrays = IndexMap::new(alloc);
-    let mut left = globals.len();
-    while left > 0 {
-        left -= 1;
-        let global = &globals[left];
-        let elements = shape_elements(alloc, &global.shape)?;
-        arrays.insert(&global.name, elements)?;
-    }
-    Ok(arrays)
 }

@@ -7,6 +7,7 @@
 
 mod action;
 mod answers;
+mod arrays;
 mod call;
 mod environment;
 mod eval;
@@ -22,6 +23,7 @@ mod step;
 mod value;
 
 pub use answers::Answers;
+pub use arrays::{Arrays, initial_arrays, set_element};
 pub use environment::{Callee, Decision, Definition, Environment, Look};
 pub use machine::Machine;
 pub use plain::Plain;

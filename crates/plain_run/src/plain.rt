@@ -1,14 +1,14 @@
 //! The environment of a program that knows no update.
 
-ghost use Rattle.std.specs.Prelude.{◌≡◌, codes, false, if◌then◌else◌, Some, None, IfOk, OnOk, OnErr};
-ghost use Rattle.plain_run.specs.Steps.{elements_with};
+ghost use Rattle.std.specs.Prelude.{◌≡◌, codes, IfOk, OnOk, OnErr};
 ghost use Rattle.plain_run.specs.Environments.{func_or_none, seen_callee};
 ghost use Rattle.plain_run.specs.Values.{seen_value};
 ghost use Rattle.c_lang.specs.Programs.{func_in};
 
+use crate::arrays::{Arrays, initial_arrays, set_element};
 use crate::environment::{Callee, Decision, Definition, Environment, Look};
 use crate::indexed::IndexedProgram;
-use crate::initial::{Arrays, initial_arrays, initial_values};
+use crate::initial::initial_values;
 use crate::names::Values;
 use crate::run::Run;
 use crate::value::Value;
@@ -22,23 +22,6 @@ pub struct Plain<'p> {
     program: IndexedProgram<'p>,
     values: Values<'p, &'p Name>,
     arrays: Arrays<'p>,
-}
-
-// Writes an element where the index is within the bounds, and says whether it is.
-fn set_element(elements: &mut Vec<i32>, at: i32, element: i32) -> bool
-    ensures within { elements_with elements.old.items at element ≡
-        (if result then Some elements.new.items else None) }
-    ensures outside { result ≡ false → elements.new.items ≡ elements.old.items }
-{
-    if at < 0 {
-        return false;
-    }
-    let at = at as usize;
-    if at >= elements.len() {
-        return false;
-    }
-    elements[at] = element;
-    true
 }
 
 impl<'p> Look for Plain<'p> {
@@ -70,7 +53,7 @@ impl<'p> Look for Plain<'p> {
     }
 
     fn elements<'a>(&'a self, _origin: (), array: &'a Name) -> &'a [i32] {
-        match self.arrays.get(&array) {
+        match self.arrays.get(array.as_bytes()) {
             Some(elements) => elements.as_slice(),
             None => &[],
         }
@@ -127,7 +110,7 @@ impl<'p> Environment<'p> for Plain<'p> {
     }
 
     fn set_element(&mut self, origin: (), array: &'p Name, at: i32, element: i32) -> bool {
-        match self.arrays.get_mut(&array) {
+        match self.arrays.get_mut(array.as_bytes()) {
             Some(elements) => set_element(elements, at, element),
             None => false,
         }

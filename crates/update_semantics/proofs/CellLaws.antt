@@ -13,7 +13,7 @@ use Rattle.plain_run.proofs.StoreLaws.{all_names}
 use Rattle.plain_run.proofs.TableLaws.{same_name, seen-insert, at_test, found-set, from_true, IsFilled-more}
 use Rattle.version_names.specs.Parts.{version_of}
 use Rattle.version_names.specs.declared.part.Version.{Version}
-use Rattle.update_semantics.specs.Code.Cells.{Values, origin_of, HasValuesOf, HasArraysOf, SetsIn}
+use Rattle.update_semantics.specs.Code.Cells.{Values, origin_of, HasValuesOf, SetsIn}
 use Rattle.update_semantics.specs.Code.Linked.{function_at}
 use Rattle.plain_run.specs.Values.{seen_value}
 use Rattle.update_semantics.specs.UpdatingRun.{function_meaning}
@@ -28,11 +28,6 @@ pub HasValues-more : (w : World) (u : Version) (old new : Values) (k : Bor Bytes
 HasValues-more w u old new k v g globals is name value has =
     IsFilled-more (λ (d : GlobalVar). d.name) global_named (value_or_zero function_at) (initial_value (function_meaning (world_of w) (origin_of u) (version_of u)))
     old new k v g globals (λ x. refl) is name value has
-
-pub HasArrays-more : (old new : Arrays) (k : Bor Bytes) (elements : Vec ℤ Global) (g : GlobalVar) (globals : List GlobalVar)
-    → new ≡ insert_entry same_name old k elements → k.now ≡ g.name → elements.items ≡ shape_elements g.shape → HasArraysOf old globals → HasArraysOf new (g ∷ globals)
-HasArrays-more old new k elements g globals is name value has =
-    IsFilled-more (λ (d : GlobalVar). d.name) global_named elements_or_none initial_elements old new k elements g globals (λ x. refl) is name value has
 
 pub values-insert : (old new : Values) (k : Bor Bytes) (v : Value Function) → new ≡ insert_entry same_name old k v
     → seen_values function_at new ≡ updated (seen_values function_at old) k.now (seen_value function_at v)

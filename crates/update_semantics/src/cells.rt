@@ -1,9 +1,9 @@
 //! The cells of one home.
 
-ghost use Rattle.std.specs.Prelude.{◌≡◌, ℕ, pos, false, if◌then◌else◌, List, [], Some, None, IfOk, OnOk, OnErr};
-ghost use Rattle.c_lang.specs.Programs.{shape_value, shape_elements};
+ghost use Rattle.std.specs.Prelude.{◌≡◌, ℕ, pos, List, [], IfOk, OnOk, OnErr};
+ghost use Rattle.c_lang.specs.Programs.{shape_value};
 ghost use Rattle.c_lang.specs.Values.{Num};
-ghost use Rattle.plain_run.specs.Steps.{updated, elements_with};
+ghost use Rattle.plain_run.specs.Steps.{updated};
 ghost use Rattle.version_names.specs.Parts.{version_of};
 ghost use Rattle.update_semantics.specs.Code.Cells.{values_of, arrays_of, origin_of, HasValues, HasArrays, SetsIn};
 ghost use Rattle.update_semantics.specs.Code.Linked.{function_at, provenance_of};
@@ -15,13 +15,11 @@ use crate::linked::{Function, Provenance};
 use crate::meanings::Meanings;
 use c_lang::Shape;
 use indexmap::IndexMap;
-use plain_run::Value;
+use plain_run::{Arrays, Value, initial_arrays, set_element};
 use std::alloc::{AllocError, Global};
 use version_names::Version;
 
 type Values<'p> = IndexMap<&'p [u8], Value<Function<'p>>>;
-
-type Arrays<'p> = IndexMap<&'p [u8], Vec<i32>>;
 
 /// The cells that stand at one home: scalars and pointers, and arrays, by their names.
 #[derive(Drop)]
@@ -55,15 +53,6 @@ fn shape_value<'p>(
     }
 }
 
-fn shape_elements(alloc: Global, shape: &Shape) -> Result<Vec<i32>, AllocError>
-    ensures { IfOk result (λ elements. elements.items ≡ shape_elements shape.now) }
-{
-    match shape {
-        Shape::Arr(elements) => Vec::from_slice(alloc, elements.as_slice()),
-        Shape::Int(_) | Shape::Fp(_, _) => Ok(Vec::new(alloc)),
-    }
-}
-
 // Of several globals with one name the first counts.
 fn initial_values<'p>(
     alloc: Global,
@@ -82,42 +71,6 @@ fn initial_values<'p>(
         values.insert(global.name.as_bytes(), value)?;
     }
     Ok(values)
-}
-
-fn initial_arrays<'p>(
-    alloc: Global,
-    meanings: &Meanings<'p>,
-    version: Version,
-) -> Result<Arrays<'p>, AllocError>
-    ensures { IfOk result (λ arrays. HasArrays meanings.now version arrays.entries) }
-{
-    let globals = meanings.program(version).globals.as_slice();
-    let mut arrays = IndexMap::new(alloc);
-    let mut left = globals.len();
-    while left > 0 {
-        left -= 1;
-        let global = &globals[left];
-        let elements = shape_elements(alloc, &global.shape)?;
-        arrays.insert(global.name.as_bytes(), elements)?;
-    }
-    Ok(arrays)
-}
-
-// Writes an element where the index is within the bounds, and says whether it is.
-fn set_element(elements: &mut Vec<i32>, at: i32, element: i32) -> bool
-    ensures within { elements_with elements.old.items at element ≡
-        (if result then Some elements.new.items else None) }
-    ensures outside { result ≡ false → elements.new.items ≡ elements.old.items }
-{
-    if at < 0 {
-        return false;
-    }
-    let at = at as usize;
-    if at >= elements.len() {
-        return false;
-    }
-    elements[at] = element;
-    true
 }
 
 impl<'p> Cells<'p> {
@@ -142,7 +95,7 @@ impl<'p> Cells<'p> {
         ensures arrays { IfOk result (λ cells. HasArrays meanings.now version cells.arrays.entries) }
     {
         let values = initial_values(alloc, meanings, version)?;
-        let arrays = initial_arrays(alloc, meanings, version)?;
+        let arrays = initial_arrays(alloc, meanings.program(version).globals.as_slice())?;
         Ok(Cells { values, arrays })
     }
 

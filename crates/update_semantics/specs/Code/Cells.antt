@@ -39,15 +39,12 @@ abbrev pub HasValuesOf : World → Version → Values → List GlobalVar → Typ
 HasValuesOf w u entries globals =
     (x : Bytes) → seen_values function_at entries x ≡ initial_value (function_meaning (world_of w) (origin_of u) (version_of u)) (global_named globals x)
 
-abbrev pub HasArraysOf : Arrays → List GlobalVar → Type 0
-HasArraysOf entries globals = (x : Bytes) → seen_arrays entries x ≡ initial_elements (global_named globals x)
-
 -- and those of all its globals
 abbrev pub HasValues : World → Version → Values → Type 0
 HasValues w u entries = HasValuesOf w u entries (program_of w u).globals
 
 abbrev pub HasArrays : World → Version → Arrays → Type 0
-HasArrays w u entries = HasArraysOf entries (program_of w u).globals
+HasArrays w u entries = (x : Bytes) → seen_arrays entries x ≡ initial_elements (global_named (program_of w u).globals x)
 
 -- An element is written, or its index is out of bounds and nothing changes. `put` says what the whole
 -- is with other elements.

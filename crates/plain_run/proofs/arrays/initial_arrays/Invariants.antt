@@ -2,7 +2,7 @@ use Rattle.std.proofs.Common.{◌≡◌, ◌≤◌, drop, length}
 use Rattle.c_lang.specs.Names.{Bytes}
 use Rattle.c_lang.specs.Programs.{global_named, initial_elements}
 use Rattle.plain_run.specs.Code.Names.{seen_arrays}
-use Rattle.plain_run.proofs.initial.initial_arrays.Given as goal
+use Rattle.plain_run.proofs.arrays.initial_arrays.Given as goal
 
 abbrev pub invariant-loop-left : goal.invariant-loop-left
 invariant-loop-left l = record {
