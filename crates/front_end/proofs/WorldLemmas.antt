@@ -18,7 +18,6 @@ use Rattle.c_parser.proofs.WrittenLaws.{one_of_text, is_written}
 use Rattle.c_types.specs.Kept.{TypedProgram, IsChecked, IsKept}
 use Rattle.c_types.specs.Types.{Types}
 use Rattle.c_types.specs.Programs.{resolved_program}
-use Rattle.version_names.specs.Parts.{part_of}
 use Rattle.update_points.specs.Points.{all_points, refusal_of, IsListed}
 use Rattle.update_points.specs.declared.points.Points.{Points}
 use Rattle.state_xform.specs.Kept as xform

@@ -4,7 +4,6 @@ use Rattle.c_lang.specs.Values as spec
 use Rattle.c_lang.specs.Values.{fits_int, is_zero}
 use Rattle.c_lang.specs.Evaluation as evaluation
 use Rattle.c_lang.specs.Evaluation.{same_value}
-use Rattle.c_lang.specs.declared.event.Trap.{Trap}
 use Rattle.c_lang.specs.declared.event.Trap.TheVariants.{Overflow, Divide}
 use Rattle.c_lang.specs.declared.expr.Op.{Op}
 use Rattle.c_lang.specs.declared.expr.Op.TheVariants as op

@@ -1,5 +1,5 @@
 -- What the environment of a plain run stands for.
-use Rattle.std.specs.Prelude.{⊤, List}
+use Rattle.std.specs.Prelude.{⊤}
 use Rattle.std.specs.Borrow.{Bor}
 use Rattle.c_lang.specs.Names.{Bytes}
 use Rattle.c_lang.specs.Programs.{no_func, global_named, initial_value, initial_elements}

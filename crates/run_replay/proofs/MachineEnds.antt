@@ -10,7 +10,7 @@ use Rattle.c_lang.specs.Values.{is_zero}
 use Rattle.version_names.specs.Version.{is_old}
 use Rattle.version_names.specs.Provenance.{may_update}
 use Rattle.plain_run.specs.PlainRun.{plain_access, dropped, step}
-use Rattle.update_semantics.specs.UpdatingRun.{World, State, UpdFrame, updating_access, update, nothing_special, picked, swapped, step_updating}
+use Rattle.update_semantics.specs.UpdatingRun.{World, State, UpdFrame, updating_access, update, nothing_special, picked, step_updating}
 use Rattle.run_replay.specs.Code.After.{ShowsEnds, RestsWhenOver}
 use Rattle.run_replay.proofs.MoveLaws.{EndsRightly, either_live, act_ends, either_ends}
 use Rattle.run_replay.proofs.EndLaws.{step_shows, rests_when_over}

@@ -6,7 +6,6 @@ use Rattle.std.specs.Io.KnownBytes.{Appends}
 use Rattle.c_lang.specs.Limits.{size_limit}
 use Rattle.c_lang.specs.declared.unit.Unit.{Unit}
 use Rattle.c_lang.specs.declared.unit.Unit.TheVariants.{Old, New, Xform}
-use Rattle.c_lang.specs.declared.refusal.Refusal.{Refusal}
 use Rattle.top_call.specs.Words.{Text, UpdateFiles, Request, Merge}
 use Rattle.top_call.specs.Replies.{Reply}
 use Rattle.top_call.specs.Held.{IsHeld}

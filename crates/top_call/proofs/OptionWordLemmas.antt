@@ -1,5 +1,5 @@
 -- What words give that stand in any order.
-use Rattle.std.proofs.Common.{◌≡◌, refl, sym, ap, ◌∙◌, subst, ℕ, suc, ◌<◌, arith, ◌+◌, ℤ, List, [], ◌∷◌, ◌++◌, length, get_or, take, drop, map, true, false, Option, Some, None, option_map, String, string_bytes}
+use Rattle.std.proofs.Common.{◌≡◌, refl, sym, ap, ◌∙◌, subst, ℕ, suc, ◌<◌, arith, ◌+◌, List, [], ◌∷◌, ◌++◌, length, get_or, take, drop, map, true, false, Option, Some, None, option_map, String, string_bytes}
 use Rattle.std.specs.Prelude.{nat_eq, MatchOption}
 use Rattle.std.specs.Borrow.{Bor}
 use Rattle.std.specs.List.{starts_with}

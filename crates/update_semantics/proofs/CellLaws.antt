@@ -5,7 +5,7 @@ use Rattle.std.specs.Map.{set_value}
 use Rattle.std.specs.Str.{bytes_eq}
 use Rattle.indexmap.specs.IndexMap.{insert_entry}
 use Rattle.c_lang.specs.Names.{Bytes}
-use Rattle.c_lang.specs.Programs.{global_named, initial_value, initial_elements, shape_value, shape_elements}
+use Rattle.c_lang.specs.Programs.{global_named, initial_value, shape_value}
 use Rattle.c_lang.specs.declared.program.GlobalVar.{GlobalVar}
 use Rattle.plain_run.specs.Code.Names.{Arrays, found, value_or_zero, elements_or_none, seen_values, seen_arrays}
 use Rattle.plain_run.specs.Steps.{updated, elements_with}

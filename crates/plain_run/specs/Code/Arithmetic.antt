@@ -1,5 +1,5 @@
 -- The arithmetic of `int`, before its numbers are values.
-use Rattle.std.specs.Prelude.{zero, suc, ℤ, pos, ◌+ℤ◌, ◌-ℤ◌, ◌*ℤ◌, Bool, not, ◌&&◌, ◌||◌, int_lt, int_le, int_div, int_rem, if◌then◌else◌, Result, Ok, Err}
+use Rattle.std.specs.Prelude.{ℤ, pos, ◌+ℤ◌, ◌-ℤ◌, ◌*ℤ◌, Bool, not, ◌&&◌, ◌||◌, int_lt, int_le, int_div, int_rem, if◌then◌else◌, Result, Ok, Err}
 use Rattle.c_lang.specs.Values.{fits_int, is_zero}
 use Rattle.c_lang.specs.Values as spec
 use Rattle.c_lang.specs.declared.event.Trap.{Trap}

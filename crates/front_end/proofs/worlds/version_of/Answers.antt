@@ -1,5 +1,3 @@
-use Rattle.std.proofs.Common.{subst, sym}
-use Rattle.c_types.specs.Kept.{TypedProgram, IsKept}
 use Rattle.front_end.proofs.WorldLemmas.{kept}
 use Rattle.front_end.proofs.worlds.version_of.Goals as goal
 

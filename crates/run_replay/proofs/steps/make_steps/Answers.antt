@@ -1,4 +1,4 @@
-use Rattle.std.proofs.Common.{◌+◌, inl, inr, Vec, Global, [], ◌∷◌, ◌++◌, sym, ap, ◌∙◌, subst, append-nil, arith}
+use Rattle.std.proofs.Common.{◌+◌, inl, inr, Vec, Global, ◌++◌, sym, ap, ◌∙◌, subst, append-nil, arith}
 use Rattle.c_lang.specs.declared.event.Event.{Event}
 use Rattle.plain_run.specs.Runs.{Makes, IsTooDeep}
 use Rattle.plain_run.specs.declared.step.RunError.TheVariants.{Deep}

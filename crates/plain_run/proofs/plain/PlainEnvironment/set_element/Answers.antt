@@ -15,7 +15,7 @@ returns-in-Some-clause-set c =
     let new = (c.get_mut.follows.lender c.set_element.new.elements).entries in
     let there = subst (λ (x : Bytes). found m.arrays.entries x ≡ Some elements) c.as_bytes.ensures (sym c.in-Some.ensures.value) in
     let written =
-        subst (λ (x : Bytes). new ≡ set_value (λ n. bytes_eq x n.now) m.arrays.entries c.set_element.new.elements) c.as_bytes.ensures
-        (c.get_mut.follows.holds c.set_element.new.elements).0 in
+    subst (λ (x : Bytes). new ≡ set_value (λ n. bytes_eq x n.now) m.arrays.entries c.set_element.new.elements) c.as_bytes.ensures
+    (c.get_mut.follows.holds c.set_element.new.elements).0 in
     sets_element m.arrays.entries new c.args.array.now elements c.set_element.new.elements there written m.program m.values.entries c.args.at c.args.element c.set_element.result
     (sym (ap₂ (elements_with elements.items) (to_z-of_z w32 c.args.at c.ranges.at) (to_z-of_z w32 c.args.element c.ranges.element)) ∙ c.set_element.ensures.within) c.set_element.ensures.outside

@@ -1,4 +1,4 @@
-use Rattle.std.proofs.Common.{[], List, map, reverse, ap₂, ap, ◌∙◌}
+use Rattle.std.proofs.Common.{map, reverse, ap₂, ap, ◌∙◌}
 use Rattle.c_lang.specs.declared.stmt.Dest.TheVariants.{Nowhere}
 use Rattle.plain_run.specs.Environments.{seen_definition}
 use Rattle.plain_run.specs.Steps.{Live, frame_of}

@@ -1,4 +1,4 @@
-use Rattle.std.proofs.Common.{[], List, map, ap, ◌∙◌}
+use Rattle.std.proofs.Common.{[], map, ap, ◌∙◌}
 use Rattle.c_lang.specs.declared.program.Func.{Func}
 use Rattle.c_lang.specs.declared.stmt.Dest.TheVariants.{Nowhere}
 use Rattle.plain_run.specs.Environments.{seen_definition}
