@@ -11,7 +11,6 @@ use Rattle.plain_run.specs.Code.Names.{Arrays, found, value_or_zero, elements_or
 use Rattle.plain_run.specs.Steps.{updated, elements_with}
 use Rattle.plain_run.proofs.StoreLaws.{all_names}
 use Rattle.plain_run.proofs.TableLaws.{same_name, seen-insert, at_test, found-set, from_true, IsFilled-more}
-use Rattle.version_names.specs.Parts.{version_of}
 use Rattle.version_names.specs.declared.part.Version.{Version}
 use Rattle.update_semantics.specs.Code.Cells.{Values, origin_of, HasValuesOf, SetsIn}
 use Rattle.update_semantics.specs.Code.Linked.{function_at}
@@ -23,10 +22,10 @@ use Rattle.plain_run.specs.declared.value.Value.{Value}
 
 pub HasValues-more : (w : World) (u : Version) (old new : Values) (k : Bor Bytes) (v : Value Function) (g : GlobalVar) (globals : List GlobalVar)
     → new ≡ insert_entry same_name old k v → k.now ≡ g.name
-    → seen_value function_at v ≡ shape_value (function_meaning (world_of w) (origin_of u) (version_of u)) g.shape
+    → seen_value function_at v ≡ shape_value (function_meaning (world_of w) (origin_of u)) g.shape
     → HasValuesOf w u old globals → HasValuesOf w u new (g ∷ globals)
 HasValues-more w u old new k v g globals is name value has =
-    IsFilled-more (λ (d : GlobalVar). d.name) global_named (value_or_zero function_at) (initial_value (function_meaning (world_of w) (origin_of u) (version_of u)))
+    IsFilled-more (λ (d : GlobalVar). d.name) global_named (value_or_zero function_at) (initial_value (function_meaning (world_of w) (origin_of u)))
     old new k v g globals (λ x. refl) is name value has
 
 pub values-insert : (old new : Values) (k : Bor Bytes) (v : Value Function) → new ≡ insert_entry same_name old k v

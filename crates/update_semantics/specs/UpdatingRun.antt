@@ -52,8 +52,9 @@ old_or_new home x (Some y) new = if same_home (home version.Old y) Old then (Old
 old_or_new home x None (Some y) = if same_home (home version.New y) New then (New, y) else (Unlinked, x)
 old_or_new home x None None = (Unlinked, x)
 
--- in the transformer a plain name is a shared one, `dsu_old_NAME` one of the old version alone, and
--- `dsu_new_NAME` one of the new version alone
+-- In the transformer and in the client a plain name is a shared one, `dsu_old_NAME` one of the old version
+-- alone, and `dsu_new_NAME` one of the new version alone. A client's text has no such names: they stand in its
+-- resolved form, by the place at which the name stands.
 abbrev pub linked_by_prefix : (Version → Bytes → Home) → Bytes → Linked
 linked_by_prefix home x =
     if same_home (home version.Old x) Both then (Both, x)
@@ -88,15 +89,14 @@ module _ (W : World) where
   cell_meaning origin.Xform x = linked_by_prefix (cell_part W.first W.second) x
   cell_meaning origin.Client x = (Unlinked, x)
 
-  -- The function that a name stands for in a frame. A client names a function of one version alone
-  -- only where that version is the current one.
-  abbrev pub function_meaning : Provenance → Version → Bytes → Linked
-  function_meaning origin.Old now f = (code_part W.first W.second version.Old f, f)
-  function_meaning origin.New now f = (code_part W.first W.second version.New f, f)
-  function_meaning origin.Xform now f =
+  -- the function that a name stands for in a frame
+  abbrev pub function_meaning : Provenance → Bytes → Linked
+  function_meaning origin.Old f = (code_part W.first W.second version.Old f, f)
+  function_meaning origin.New f = (code_part W.first W.second version.New f, f)
+  function_meaning origin.Xform f =
       if is_some (func_named W.xform.funcs f) then (Xform, f) else linked_by_prefix (code_part W.first W.second) f
-  function_meaning origin.Client now f =
-      if is_some (func_named client_funcs f) then (Client, f) else (code_part W.first W.second now f, f)
+  function_meaning origin.Client f =
+      if is_some (func_named client_funcs f) then (Client, f) else linked_by_prefix (code_part W.first W.second) f
 
   abbrev pub version_code : Version → Bytes → Provenance × Func
   version_code version.Old f = (origin.Old, func_in W.first.funcs f)
@@ -116,7 +116,7 @@ module _ (W : World) where
     same = same_linked;
     value = λ o g x. let c = cell_meaning o x in g.values c.0 c.1;
     elements = λ o g x. let c = cell_meaning o x in g.arrays c.0 c.1;
-    code = λ o g f. function_meaning o g.now f;
+    code = λ o g f. function_meaning o f;
     put = λ o x v g. record g { values = put_linked g.values (cell_meaning o x) v };
     put_elements = λ o x elements g. record g { arrays = put_linked g.arrays (cell_meaning o x) elements };
     enter = λ g f. code_of g.now f;
@@ -126,7 +126,7 @@ module _ (W : World) where
   abbrev pub swapped_state : State → State
   swapped_state g = record {
     now = version.New;
-    values = λ h x. if_new h (initial_value (function_meaning origin.New version.New) (global_named W.second.globals x)) (g.values h x);
+    values = λ h x. if_new h (initial_value (function_meaning origin.New) (global_named W.second.globals x)) (g.values h x);
     arrays = λ h x. if_new h (initial_elements (global_named W.second.globals x)) (g.arrays h x);
   }
 
@@ -159,7 +159,7 @@ module _ (W : World) where
   abbrev pub first_state : State
   first_state = record {
     now = version.Old;
-    values = λ h x. if_in_old h (initial_value (function_meaning origin.Old version.Old) (global_named W.first.globals x)) (Num (pos 0));
+    values = λ h x. if_in_old h (initial_value (function_meaning origin.Old) (global_named W.first.globals x)) (Num (pos 0));
     arrays = λ h x. if_in_old h (initial_elements (global_named W.first.globals x)) [];
   }
 

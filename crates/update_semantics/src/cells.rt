@@ -43,7 +43,7 @@ fn shape_value<'p>(
     version: Version,
     shape: &'p Shape,
 ) -> Value<Function<'p>>
-    ensures { seen_value function_at result ≡ shape_value (function_meaning (world_of meanings.now) (origin_of version) (version_of version)) shape.entry.now }
+    ensures { seen_value function_at result ≡ shape_value (function_meaning (world_of meanings.now) (origin_of version)) shape.entry.now }
 {
     match shape {
         Shape::Int(number) => Value::Num(*number),

@@ -5,7 +5,6 @@ ghost use Rattle.std.specs.Option.{option_copied};
 ghost use Rattle.c_lang.specs.Names.{behind};
 ghost use Rattle.version_names.specs.Parts.{version_of};
 ghost use Rattle.version_names.specs.Home.{Both, same_home};
-ghost use Rattle.version_names.specs.Version as versions;
 ghost use Rattle.update_semantics.specs.Code.Linked.{home_at, linked_at, function_at, provenance_of, home_in, declared_name, program_of, own_home, alone};
 ghost use Rattle.plain_run.specs.Environments.{seen_definition};
 ghost use Rattle.update_semantics.specs.UpdatingRun.{linked_by_prefix, cell_meaning, function_meaning, version_code, code_of};
@@ -198,11 +197,9 @@ impl<'p> Meanings<'p> {
         }
     }
 
-    /// The function that a name stands for in a frame, whatever version is the current one. It takes
-    /// no memory.
+    /// The function that a name stands for in a frame. It takes no memory.
     pub fn function<'a>(&self, origin: Provenance, name: &'a Name) -> Function<'a>
-        ensures { (now : versions.Version) → function_at result ≡
-            function_meaning (world_of self.now) (provenance_of origin) now name.entry.now }
+        ensures { function_at result ≡ function_meaning (world_of self.now) (provenance_of origin) name.entry.now }
     {
         match origin {
             Provenance::Old => Function::Version(self.linked(Version::Old, Sort2::Code, name)),

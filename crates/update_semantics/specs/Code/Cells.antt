@@ -37,7 +37,7 @@ origin_of v.New = origin.New
 -- the cells have the initial values of these globals of a version
 abbrev pub HasValuesOf : World → Version → Values → List GlobalVar → Type 0
 HasValuesOf w u entries globals =
-    (x : Bytes) → seen_values function_at entries x ≡ initial_value (function_meaning (world_of w) (origin_of u) (version_of u)) (global_named globals x)
+    (x : Bytes) → seen_values function_at entries x ≡ initial_value (function_meaning (world_of w) (origin_of u)) (global_named globals x)
 
 -- and those of all its globals
 abbrev pub HasValues : World → Version → Values → Type 0

@@ -1,0 +1,2 @@
+//! The one program that two versions and a transformer are merged into.
+#![tactic(auto)]
