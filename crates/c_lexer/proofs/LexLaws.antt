@@ -7,13 +7,14 @@ use Rattle.c_lang.specs.Names.{Bytes}
 use Rattle.c_lang.specs.Limits.{size_limit}
 use Rattle.c_lang.specs.Units.{at}
 use Rattle.c_lang.specs.declared.unit.Unit.{Unit}
+use Rattle.c_lang.specs.declared.unit.Unit.TheVariants.{Old, New, Xform, Client, Merge, Hints, Certs}
 use Rattle.c_lang.specs.declared.refusal.Fail.{Fail}
 use Rattle.c_lang.specs.declared.refusal.Fail.TheVariants as fail
 use Rattle.c_lang.specs.declared.refusal.Refusal.{Refusal}
 use Rattle.c_grammar.specs.Pieces.{fault_number}
 use Rattle.c_grammar.specs.Lexed.{Lexed, first_place, Refused, too_long, has_fault, IsRefusedAs, AreSpans}
 use Rattle.c_lang.specs.Refusals.{refused_at, past_limit}
-use Rattle.c_grammar.specs.Written.{IsGiven}
+use Rattle.c_grammar.specs.Written.{MayBeWritten, IsGiven}
 use Rattle.std.proofs.lemmas.List.Elements.{Contains-get_or}
 use Rattle.c_lexer.specs.Code.Reading.{Outcome, Fails, reading}
 use Rattle.c_grammar.specs.declared.token.Token.{Token}
@@ -59,9 +60,18 @@ first u z (Err (fail.Refused given)) within h why is =
     let same = err_is given why (sym h ∙ reads_refused u z why within is) in
     λ other. ap (λ (w : Refusal). fail.Refused w) same
 
+may_be_written : (u : Unit) (size : ℕ) → size ≤ size_limit u → MayBeWritten u size
+may_be_written Old size h = h
+may_be_written New size h = h
+may_be_written Xform size h = h
+may_be_written Client size h = h
+may_be_written Merge size h = tt
+may_be_written Hints size h = h
+may_be_written Certs size h = h
+
 pub given_by : (u : Unit) (z : Bytes) (r : Result (Vec Token) Fail) → length z ≤ size_limit u → Reads u z r → IfOk r (λ tokens. All (IsGiven u) tokens.items)
 given_by u z (Ok tokens) within h =
-    λ k d lt. record { bytes = z; tokens = tokens.items; lexed = means_whole u z (Ok tokens.items) h; there = Contains-get_or tokens.items k d lt }
+    λ k d lt. record { bytes = z; size = may_be_written u (length z) within; tokens = tokens.items; lexed = means_whole u z (Ok tokens.items) h; there = Contains-get_or tokens.items k d lt }
 given_by u z (Err f) within h = tt
 
 pub spans_of : (u : Unit) (z : Bytes) (r : Result (Vec Token) Fail) → Reads u z r → IfOk r (λ tokens. AreSpans z 0 tokens.items)
