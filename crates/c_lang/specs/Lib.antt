@@ -7,5 +7,6 @@ pub mod Trees
 pub mod Values
 pub mod Evaluation
 pub mod Programs
+pub mod Positions
 pub mod Limits
 pub mod Refusals

@@ -3,7 +3,7 @@
 use Rattle.std.specs.Prelude.{pos, Bool, List, map}
 use Rattle.std.specs.Option.{option_map}
 use Rattle.c_lang.specs.Names.{Bytes}
-use Rattle.c_lang.specs.Trees.{Expression, literal, variable, element, function, null, negation, logical_not, binary, Statement, Statements, skip, set, set_element, call, call_by, if_else, while_loop, break_loop, return_with, assert_that, input, output, point, choice, force, pick, none, more}
+use Rattle.c_lang.specs.Trees.{stmts_of, Expression, literal, variable, element, function, null, negation, logical_not, binary, Statement, Statements, skip, set, set_element, call, call_by, if_else, while_loop, break_loop, return_with, assert_that, input, output, point, choice, force, pick, none, more}
 use Rattle.c_lang.specs.declared.unit.Pos.{Pos}
 use Rattle.c_lang.specs.declared.stmt.Kind.{Kind}
 use Rattle.c_lang.specs.declared.program.GlobalVar.{GlobalVar}
@@ -62,3 +62,12 @@ pub record PlainProgram : Type 0 where
 
 abbrev pub plain_program : Program → PlainProgram
 plain_program p = record { globals = p.globals; protos = p.protos; funcs = map plain_func p.funcs }
+
+-- ---- the way back
+
+abbrev pub built_func : PlainFunc → Func
+built_func f = record { name = f.name; params = f.params; gives = f.gives; body = stmts_of f.body; pos = f.pos }
+
+-- the program whose resolved form a typed program can be
+abbrev pub plain : Program → Program
+plain P = record { globals = P.globals; protos = P.protos; funcs = map built_func (plain_program P).funcs; early = P.early }

@@ -35,6 +35,15 @@ impl Model for Typed {
 }
 
 impl Typed {
+    /// A program that is known to be the resolved form of one that is typed in this unit and written
+    /// in it. It takes no memory.
+    pub fn new(unit: Unit, program: Program) -> Typed
+        requires { IsKept (record { unit = unit; program = program }) }
+        ensures { (result.unit ≡ unit) × (result.program ≡ program) }
+    {
+        Typed { unit, program }
+    }
+
     /// The unit that the program was checked in. It takes no memory.
     pub fn unit(&self) -> Unit
         ensures { result ≡ self.now.unit }

@@ -17,7 +17,7 @@ use Rattle.c_grammar.specs.Statements.{Pieces, pieces_scope}
 use Rattle.c_parser.specs.declared.parts.Parts.{Parts}
 use Rattle.c_grammar.specs.Units.{HeadTree, External, external_tokens, external_height, IsExternal, AreExternals, unit_tokens, unit_height, add, add_all, with_proto, with_func, body_start, all_declared}
 use Rattle.merge_printer.specs.Heights.{statements_height}
-use Rattle.merge_printer.specs.Positions.{StatementsHavePositions, FuncHasPositions}
+use Rattle.c_lang.specs.Positions.{StatementsHavePositions, FuncHasPositions}
 use Rattle.merge_printer.specs.Statements.{statements_text}
 use Rattle.merge_printer.specs.Programs.{head_start, kinds_text, parameters_text, proto_text, func_text}
 use Rattle.merge_printer.proofs.Chains.{Lines, before, above, as_lines, spaced_lines, ended, no_lines}

@@ -10,7 +10,7 @@ use Rattle.c_types.specs.Programs.{resolved_program}
 use Rattle.c_types.specs.Types.{Types}
 use Rattle.c_types.proofs.PlainLaws.{plain_resolved_program}
 use Rattle.merge_printer.specs.Heights.{expression_height, arguments_height, statement_height, statements_height, funcs_height}
-use Rattle.merge_printer.specs.Plain.{built_func}
+use Rattle.c_types.specs.Plain.{built_func}
 use Rattle.merge_printer.proofs.DeclarationLaw.{body_of}
 use Rattle.merge_printer.proofs.PlainLaw.{same_binds, statements_back}
 

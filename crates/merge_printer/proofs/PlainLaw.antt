@@ -13,7 +13,7 @@ use Rattle.merge_printer.specs.Expressions.{binds, gap, expression_text, express
 use Rattle.merge_printer.specs.Statements.{statement_text, statements_text}
 use Rattle.merge_printer.specs.Programs.{func_text, program_text}
 use Rattle.c_types.specs.Plain.{plain_expression, plain_statement, plain_statements, plain_func}
-use Rattle.merge_printer.specs.Plain.{built_func, plain}
+use Rattle.c_types.specs.Plain.{built_func, plain}
 use Rattle.merge_printer.proofs.DeclarationLaw.{body_of, IsBuilt}
 
 -- ---- the way back

@@ -9,7 +9,7 @@ use Rattle.c_lang.specs.declared.unit.Unit.TheVariants.{Merge}
 use Rattle.c_lang.specs.declared.program.Func.{Func}
 use Rattle.c_lang.specs.declared.program.Program.{Program}
 use Rattle.c_grammar.specs.Written.{Parses}
-use Rattle.merge_printer.specs.Plain.{plain}
+use Rattle.c_types.specs.Plain.{plain}
 use Rattle.merge_printer.specs.Printable.{IsPrintable}
 use Rattle.merge_printer.specs.Programs.{program_text}
 use Rattle.merge_printer.proofs.DeclarationLaw.{FuncReads, IsBuilt, FuncFits}

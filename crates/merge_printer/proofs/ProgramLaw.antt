@@ -20,7 +20,7 @@ use Rattle.c_grammar.specs.Units.{External, external_tokens, AreExternals, unit_
 use Rattle.c_lang.specs.Limits.{cell_limit}
 use Rattle.c_grammar.specs.Grammar.{Gram, program_of}
 use Rattle.merge_printer.specs.Heights.{statements_height, funcs_height}
-use Rattle.merge_printer.specs.Positions.{FuncHasPositions, ProgramHasPositions}
+use Rattle.c_lang.specs.Positions.{FuncHasPositions, ProgramHasPositions}
 use Rattle.merge_printer.specs.Programs.{proto_text, global_text, func_text, program_text}
 use Rattle.merge_printer.proofs.Chains.{Lines, above, as_lines}
 use Rattle.merge_printer.proofs.GlobalLaw.{cells, ShapeFits, GlobalFits, prints_global}

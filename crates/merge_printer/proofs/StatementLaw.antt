@@ -28,7 +28,7 @@ use Rattle.c_grammar.specs.Scopes.{Scope, is_declared, declare, refuse_arity}
 use Rattle.c_grammar.specs.Statements.{CallTree, SideTree, PointerTree, Ints, ints_tokens, int_tokens, ints_count, pointer_tokens, arity, CondTree, cond_tokens, Piece, Body, Pieces, IsPiece, IsBody, ArePieces, body_tokens, pieces_tokens, body_height, pieces_height, body_scope, pieces_scope, body_stmts, pieces_stmts, set_stmts, set_scope, right_to, call_to, stmts, scope_after}
 use Rattle.c_grammar.specs.Statements as tree
 use Rattle.merge_printer.specs.Heights.{expression_height, arguments_height, statement_height, statements_height}
-use Rattle.merge_printer.specs.Positions.{StatementHasPositions, StatementsHavePositions}
+use Rattle.c_lang.specs.Positions.{StatementHasPositions, StatementsHavePositions}
 use Rattle.merge_printer.specs.Expressions.{expression_text}
 use Rattle.merge_printer.specs.Statements.{more_ints, ints, target, call_text, statement_text, statements_text}
 use Rattle.merge_printer.proofs.Chains.{Prints, Lines, followed, before, above, as_tree, as_lines, space, spaced, spaced_lines, ended}

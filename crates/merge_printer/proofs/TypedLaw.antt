@@ -16,7 +16,7 @@ use Rattle.c_types.specs.Programs.{resolved_program}
 use Rattle.c_types.specs.Kept.{TypedProgram}
 use Rattle.c_types.specs.Types.{Types}
 use Rattle.c_types.proofs.PlainLaws.{plain_resolved_program}
-use Rattle.merge_printer.specs.Plain.{built_func, plain}
+use Rattle.c_types.specs.Plain.{built_func, plain}
 use Rattle.merge_printer.specs.Printable.{IsPrintable}
 use Rattle.merge_printer.specs.Programs.{program_text}
 use Rattle.merge_printer.proofs.DeclarationLaw.{FuncReads, body_of}

@@ -2,7 +2,5 @@ pub mod Expressions
 pub mod Statements
 pub mod Programs
 pub mod Heights
-pub mod Plain
-pub mod Positions
 pub mod Printable
 pub mod Checked

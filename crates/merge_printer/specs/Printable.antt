@@ -8,7 +8,7 @@ use Rattle.c_grammar.specs.declared.token.Token.{Token}
 use Rattle.c_grammar.specs.Nesting.{IsNested}
 use Rattle.c_grammar.specs.Written.{IsWritten}
 use Rattle.merge_printer.specs.Heights.{funcs_height}
-use Rattle.merge_printer.specs.Positions.{ProgramHasPositions}
+use Rattle.c_lang.specs.Positions.{ProgramHasPositions}
 use Rattle.merge_printer.specs.Programs.{program_text}
 
 -- It is written in unit Merge and nothing is refused of it, its positions can be printed, and its text is at

@@ -5,7 +5,7 @@ ghost use Rattle.std.specs.List.{flat_map};
 ghost use Rattle.c_lang.specs.declared.unit.Unit.TheVariants.{Merge};
 ghost use Rattle.c_lang.specs.Limits.{height_limit};
 ghost use Rattle.c_grammar.specs.Written.{Parses};
-ghost use Rattle.merge_printer.specs.Plain.{plain};
+ghost use Rattle.c_types.specs.Plain.{plain};
 ghost use Rattle.merge_printer.specs.Printable.{IsPrintable};
 ghost use Rattle.merge_printer.specs.Programs as spec;
 ghost use Rattle.merge_printer.specs.Statements.{position_text};
