@@ -13,7 +13,7 @@ use Rattle.plain_run.proofs.StoreLaws.{all_names}
 use Rattle.plain_run.proofs.TableLaws.{same_name, seen-insert, at_test, found-set, from_true, IsFilled-more}
 use Rattle.version_names.specs.declared.part.Version.{Version}
 use Rattle.update_semantics.specs.Code.Cells.{Values, origin_of, HasValuesOf, SetsIn}
-use Rattle.update_semantics.specs.Code.Linked.{function_at}
+use Rattle.update_semantics.specs.Linked.{function_at}
 use Rattle.plain_run.specs.Values.{seen_value}
 use Rattle.update_semantics.specs.UpdatingRun.{function_meaning}
 use Rattle.update_semantics.specs.Worlds.{World, world_of}

@@ -18,7 +18,7 @@ use Rattle.version_names.specs.declared.part.Version.{Version}
 use Rattle.version_names.specs.declared.part.Version.TheVariants as v
 use Rattle.version_names.specs.declared.part.Sort2.{Sort2}
 use Rattle.version_names.specs.declared.part.Sort2.TheVariants as sort
-use Rattle.update_semantics.specs.Code.Linked.{home_at, home_in, declared_name, program_of}
+use Rattle.update_semantics.specs.Linked.{home_at, home_in, declared_name, program_of}
 use Rattle.update_semantics.specs.Worlds.{World, IsWorld, world_of}
 
 back : (v : version.Version) (has shared : Bool) → home_at (part_at (part v has shared)) ≡ part v has shared

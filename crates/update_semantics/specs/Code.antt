@@ -2,5 +2,4 @@
 pub mod Cells
 pub mod Decisions
 pub mod Environments
-pub mod Linked
 pub mod Tables

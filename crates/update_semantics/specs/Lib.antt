@@ -1,3 +1,4 @@
+pub mod Linked
 pub mod UpdatingRun
 pub mod Worlds
 pub mod Rules

@@ -6,7 +6,7 @@ ghost use Rattle.c_lang.specs.Values.{Num};
 ghost use Rattle.plain_run.specs.Steps.{updated};
 ghost use Rattle.version_names.specs.Parts.{version_of};
 ghost use Rattle.update_semantics.specs.Code.Cells.{values_of, arrays_of, origin_of, HasValues, HasArrays, SetsIn};
-ghost use Rattle.update_semantics.specs.Code.Linked.{function_at, provenance_of};
+ghost use Rattle.update_semantics.specs.Linked.{function_at, provenance_of};
 ghost use Rattle.plain_run.specs.Values.{seen_value};
 ghost use Rattle.update_semantics.specs.UpdatingRun.{function_meaning};
 ghost use Rattle.update_semantics.specs.Worlds.{world_of};

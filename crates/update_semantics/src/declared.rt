@@ -3,7 +3,7 @@
 ghost use Rattle.std.specs.Prelude.{◌≡◌, IfOk};
 ghost use Rattle.std.specs.Option.{option_copied};
 ghost use Rattle.c_lang.specs.Programs.{global_named, func_named};
-ghost use Rattle.update_semantics.specs.Code.Linked.{declared_name};
+ghost use Rattle.update_semantics.specs.Linked.{declared_name};
 ghost use Rattle.plain_run.specs.Code.Tables.{HasFuncs};
 ghost use Rattle.update_semantics.specs.Code.Tables.{HasGlobals};
 

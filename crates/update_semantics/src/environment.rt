@@ -6,7 +6,7 @@ ghost use Rattle.version_names.specs.Provenance.{may_update};
 ghost use Rattle.version_names.specs.Version.{is_old};
 ghost use Rattle.update_semantics.specs.Code.Decisions.{Picks};
 ghost use Rattle.update_semantics.specs.Code.Environments.{world_in, state_in, rules_in};
-ghost use Rattle.update_semantics.specs.Code.Linked.{function_at, provenance_of};
+ghost use Rattle.update_semantics.specs.Linked.{function_at, provenance_of};
 ghost use Rattle.plain_run.specs.Values.{seen_value};
 ghost use Rattle.plain_run.specs.Environments.{seen_callee, seen_definition};
 ghost use Rattle.update_semantics.specs.UpdatingRun.{first_state, entry_code};

@@ -1,7 +1,8 @@
 //! Runs of an old program that is updated to a new one once at most.
 //!
 //! A `World` has both programs and what the update takes. `UpdMachine` makes a run's steps: it is the
-//! machine of `plain_run` over names that stand for cells and functions of either version.
+//! machine of `plain_run` over names that stand for cells and functions of either version. `Meanings`
+//! says what each name stands for.
 #![tactic(auto)]
 
 mod cells;
@@ -13,5 +14,7 @@ mod meanings;
 mod state;
 mod world;
 
+pub use linked::{Function, Linked, Provenance};
 pub use machine::UpdMachine;
+pub use meanings::Meanings;
 pub use world::World;

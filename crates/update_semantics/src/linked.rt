@@ -2,7 +2,7 @@
 
 ghost use Rattle.std.specs.Prelude.{◌≡◌};
 ghost use Rattle.version_names.specs.Home.{same_linked};
-ghost use Rattle.update_semantics.specs.Code.Linked.{home_at, function_at};
+ghost use Rattle.update_semantics.specs.Linked.{home_at, function_at};
 ghost use Rattle.version_names.specs.Home.{same_home};
 
 use version_names::Part;

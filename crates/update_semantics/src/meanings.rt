@@ -5,7 +5,7 @@ ghost use Rattle.std.specs.Option.{option_copied};
 ghost use Rattle.c_lang.specs.Names.{behind};
 ghost use Rattle.version_names.specs.Parts.{version_of};
 ghost use Rattle.version_names.specs.Home.{Both, same_home};
-ghost use Rattle.update_semantics.specs.Code.Linked.{home_at, linked_at, function_at, provenance_of, home_in, declared_name, program_of, own_home, alone};
+ghost use Rattle.update_semantics.specs.Linked.{home_at, linked_at, function_at, provenance_of, home_in, declared_name, program_of, own_home, alone};
 ghost use Rattle.plain_run.specs.Environments.{seen_definition};
 ghost use Rattle.update_semantics.specs.UpdatingRun.{linked_by_prefix, cell_meaning, function_meaning, version_code, code_of};
 ghost use Rattle.update_semantics.specs.Worlds.{world_of};
@@ -112,8 +112,8 @@ impl<'p> Meanings<'p> {
         }
     }
 
-    // The part in which a version's name stands.
-    fn part(&self, version: Version, sort: Sort2, name: &Name) -> Option<Part>
+    /// The part in which a version's name stands; none where the version lacks it. It takes no memory.
+    pub fn part(&self, version: Version, sort: Sort2, name: &Name) -> Option<Part>
         ensures { home_at result ≡ home_in (world_of self.now) sort (version_of version) name.now }
     {
         let world = self.world;

@@ -2,7 +2,7 @@
 
 ghost use Rattle.std.specs.Prelude.{◌≡◌, IfOk, OnOk, OnErr};
 ghost use Rattle.update_semantics.specs.Code.Cells.{state_of, values_of, arrays_of, SetsCell};
-ghost use Rattle.update_semantics.specs.Code.Linked.{home_at, linked_at, function_at};
+ghost use Rattle.update_semantics.specs.Linked.{home_at, linked_at, function_at};
 ghost use Rattle.plain_run.specs.Values.{seen_value};
 ghost use Rattle.update_semantics.specs.UpdatingRun.{put_linked, first_state, swapped_state};
 ghost use Rattle.update_semantics.specs.Worlds.{world_of};

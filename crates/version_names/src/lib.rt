@@ -10,5 +10,5 @@ mod status;
 mod table;
 
 pub use links::{Links, link, parts_are_linked};
-pub use merged::{merged_name, names_are_apart};
+pub use merged::{merged_bytes, merged_name, names_are_apart};
 pub use part::{Origin, Part, Sort2, Version};

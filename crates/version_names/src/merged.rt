@@ -26,8 +26,15 @@ fn prefix(origin: Origin) -> &'static [u8]
 pub fn merged_name(alloc: Global, origin: Origin, name: &Name) -> Result<Name, AllocError>
     ensures { IfOk result (λ merged. merged ≡ spec.merged_name origin name.now) }
 {
+    merged_bytes(alloc, origin, name.as_bytes())
+}
+
+/// The same for a name that is given by its bytes.
+pub fn merged_bytes(alloc: Global, origin: Origin, name: &[u8]) -> Result<Name, AllocError>
+    ensures { IfOk result (λ merged. merged ≡ spec.merged_name origin name.now) }
+{
     let mut bytes = Vec::from_slice(alloc, prefix(origin))?;
-    bytes.extend_from_slice(name.as_bytes())?;
+    bytes.extend_from_slice(name)?;
     Ok(Name::from_vec(bytes))
 }
 

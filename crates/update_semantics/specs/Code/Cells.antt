@@ -12,7 +12,7 @@ use Rattle.version_names.specs.Parts.{version_of}
 use Rattle.version_names.specs.Provenance as origin
 use Rattle.version_names.specs.declared.part.Version.{Version}
 use Rattle.version_names.specs.declared.part.Version.TheVariants as v
-use Rattle.update_semantics.specs.Code.Linked.{function_at, program_of}
+use Rattle.update_semantics.specs.Linked.{function_at, program_of}
 use Rattle.update_semantics.specs.UpdatingRun as run
 use Rattle.update_semantics.specs.UpdatingRun.{put_linked, function_meaning}
 use Rattle.update_semantics.specs.Worlds.{World, world_of}

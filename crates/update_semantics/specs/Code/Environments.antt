@@ -3,7 +3,7 @@ use Rattle.plain_run.specs.Environments.{Rules, Sees}
 use Rattle.version_names.specs.Home.{Linked}
 use Rattle.version_names.specs.Provenance.{Provenance}
 use Rattle.update_semantics.specs.Code.Cells.{state_of}
-use Rattle.update_semantics.specs.Code.Linked.{function_at, provenance_of}
+use Rattle.update_semantics.specs.Linked.{function_at, provenance_of}
 use Rattle.update_semantics.specs.Rules.{rules_of}
 use Rattle.update_semantics.specs.UpdatingRun.{State}
 use Rattle.update_semantics.specs.Worlds.{World, world_of}

@@ -2,7 +2,7 @@ use Rattle.std.proofs.Common.{◌≡◌, OnOk, subst}
 use Rattle.plain_run.specs.Values.{seen_value}
 use Rattle.update_semantics.specs.Code.Cells.{state_of}
 use Rattle.update_semantics.specs.Code.Environments.{state_in}
-use Rattle.update_semantics.specs.Code.Linked.{function_at}
+use Rattle.update_semantics.specs.Linked.{function_at}
 use Rattle.update_semantics.specs.UpdatingRun.{put_linked}
 use Rattle.update_semantics.proofs.environment.UpdatedNamesEnvironment.put.Goals as goal
 

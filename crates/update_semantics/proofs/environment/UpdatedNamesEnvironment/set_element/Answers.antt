@@ -2,7 +2,7 @@ use Rattle.std.proofs.Common.{subst, w32, to_z, of_z}
 use Rattle.std.proofs.lemmas.Int.{to_z-of_z}
 use Rattle.update_semantics.specs.Code.Cells.{SetsCell, state_of}
 use Rattle.update_semantics.specs.Code.Environments.{world_in, state_in}
-use Rattle.update_semantics.specs.Code.Linked.{linked_at, provenance_of}
+use Rattle.update_semantics.specs.Linked.{linked_at, provenance_of}
 use Rattle.update_semantics.specs.Worlds.{world_of}
 use Rattle.update_semantics.proofs.ElementLaws.{sets_element}
 use Rattle.update_semantics.proofs.environment.UpdatedNamesEnvironment.set_element.Goals as goal

@@ -1,6 +1,6 @@
 use Rattle.std.proofs.Common.{sym, ap, ◌∙◌}
 use Rattle.version_names.specs.Parts.{version_of}
-use Rattle.update_semantics.specs.Code.Linked.{home_in}
+use Rattle.update_semantics.specs.Linked.{home_in}
 use Rattle.update_semantics.specs.Worlds.{world_of}
 use Rattle.update_semantics.proofs.PartLaws.{declared_is}
 use Rattle.update_semantics.proofs.meanings.Meanings.part_of_bytes.Goals as goal
