@@ -1,3 +1,4 @@
+pub mod Code
 pub mod Names
 pub mod Expressions
 pub mod Statements

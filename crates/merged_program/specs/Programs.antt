@@ -1,10 +1,10 @@
 -- The one program that two versions, a transformer and a client are merged into.
-use Rattle.std.specs.Prelude.{pos, ℕ, ◌+◌, Bool, true, false, not, ◌&&◌, if◌then◌else◌, List, [], ◌∷◌, ◌++◌, map, Option, Some, None, codes}
+use Rattle.std.specs.Prelude.{pos, ℕ, ◌+◌, Bool, true, not, ◌&&◌, if◌then◌else◌, List, [], ◌∷◌, ◌++◌, map, Option, Some, None, codes}
 use Rattle.std.specs.List.{filter}
 use Rattle.c_lang.specs.Names.{Bytes}
 use Rattle.c_lang.specs.Units.{at}
 use Rattle.c_lang.specs.Programs.{func_in}
-use Rattle.c_lang.specs.Trees.{Statements, none, stmts_of}
+use Rattle.c_lang.specs.Trees.{stmt_of, stmts_of}
 use Rattle.c_lang.specs.declared.unit.Unit.TheVariants.{Merge}
 use Rattle.c_lang.specs.declared.unit.Pos.{Pos}
 use Rattle.c_lang.specs.declared.stmt.Kind.{Kind}
@@ -41,7 +41,7 @@ wrapper f =
       name = merged_name prefix.Any f.name;
       params = params;
       gives = f.gives;
-      body = stmts_of (wrapping f.pos f.gives (merged_name prefix.New f.name) (merged_name prefix.Old f.name) params);
+      body = stmt_of (wrapping f.pos f.gives (merged_name prefix.New f.name) (merged_name prefix.Old f.name) params) ∷ [];
       pos = f.pos;
     }
 
@@ -51,7 +51,7 @@ starting name f = record {
   name = codes "main";
   params = [];
   gives = true;
-  body = stmts_of (hand f.pos f.gives name []) ++ (if f.gives then [] else stmts_of (return_zero f.pos));
+  body = stmts_of (hand f.pos f.gives name []) ++ (if f.gives then [] else stmt_of (return_zero f.pos) ∷ []);
   pos = f.pos;
 }
 
@@ -65,7 +65,7 @@ flag = record { name = now_name; shape = Int (pos 0); pos = at Merge 1 }
 
 -- what is behind the body of a version's `main` that can end
 abbrev pub ending : Func → List Stmt
-ending f = if is_main f.name && can_end (body_of f.body) then stmts_of (return_zero f.pos) else []
+ending f = if is_main f.name && can_end (body_of f.body) then stmt_of (return_zero f.pos) ∷ [] else []
 
 module _ (W : World) where
   -- ---- globals
