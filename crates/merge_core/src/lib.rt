@@ -1,11 +1,6 @@
-//! The merge of two versions and a transformer into one program: of the first form of sources so
-//! far. The proof that a merged program shows what the updating run shows covers every kind of
-//! statement.
+//! The merge of two versions of a program and a transformer into one ordinary program.
 #![tactic(auto)]
 
-mod first_merge;
-mod first_print;
-mod merged_statement;
+mod merge;
 
-pub use first_merge::merge_first;
-pub use first_print::print_first;
+pub use merge::merge;

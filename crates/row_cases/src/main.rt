@@ -4,6 +4,7 @@
 //!
 //! - `file NAME TEXT`: the file holds the text from now on.
 //! - `drop NAME`: there is no such file from now on.
+//! - `keep NAME`: the file holds what the last run put from now on.
 //! - `fail read N`: the read call N of the next run fails, counted from 0.
 //! - `fail put N BYTES`: the put call N of the next run fails after so many bytes.
 //! - `dsu WORDS`: the tool runs on these words. Its status is printed, and what was put.
@@ -60,6 +61,7 @@ fn answer(alloc: Global, setting: &mut Setting, line: &str) -> Result<Option<Str
     match command {
         "file" => set_file(alloc, setting, rest)?,
         "drop" => setting.lose(rest),
+        "keep" => setting.keep(alloc, rest)?,
         "fail" => set_fault(setting, rest)?,
         "dsu" => return Ok(Some(shown(alloc, setting, rest)?)),
         _ => bail!("no such command"),
@@ -71,7 +73,7 @@ fn answer(alloc: Global, setting: &mut Setting, line: &str) -> Result<Option<Str
 fn shown(alloc: Global, setting: &mut Setting, words: &str) -> Result<String> {
     let (status, put) = setting.run(alloc, words)?;
     let name = name_of(status);
-    let text = str::from_utf8(put.as_slice())?;
+    let text = str::from_utf8(put)?;
     Ok(format!(in alloc; "{name} {}\n{text}", put.len())?)
 }
 

@@ -6,13 +6,13 @@ use Rattle.std.specs.Io.KnownBytes.{Appends}
 use Rattle.c_lang.specs.Limits.{size_limit}
 use Rattle.c_lang.specs.declared.unit.Unit.{Unit}
 use Rattle.c_lang.specs.declared.unit.Unit.TheVariants.{Old, New, Xform}
-use Rattle.top_call.specs.Words.{Text, UpdateFiles, Request, Merge}
+use Rattle.top_call.specs.Words.{Text, UpdateFiles, MergeRequest, Request, Merge}
 use Rattle.top_call.specs.Replies.{Reply}
 use Rattle.top_call.specs.Held.{IsHeld}
-use Rattle.front_end.specs.Conditions.{AllHold}
+use Rattle.front_end.specs.Conditions.{Condition, AllHold}
 use Rattle.front_end.proofs.ConditionLemmas.{all-first, no-refusal}
-use Rattle.front_end.specs.Worlds.{Texts, size_conditions}
-use Rattle.top_call.specs.Merge.{AreHeld, MergeAllows, form_conditions, name_conditions, conditions}
+use Rattle.front_end.specs.Worlds.{Texts, size_conditions, token_conditions, grammar_conditions, type_conditions, update_conditions, conditions}
+use Rattle.top_call.specs.Merge.{AreHeld, MergeAllows}
 use Rattle.top_call.specs.MergedText.{IsMergedText}
 use Rattle.top_call.specs.Around.{Around, Put}
 use Rattle.top_call.specs.Outcome.{Outcome}
@@ -63,49 +63,55 @@ module _ (around : Around) (update : UpdateFiles) (texts : Texts) (hold : Hold a
       (read-accepted around.held New update.new read.new texts.new held.new hold.new new)
       (read-accepted around.held Xform update.xform read.xform texts.xform held.xform hold.xform xform))
 
-  accepted-whole : (read : Texts) → AreHeld around.held update read → AllHold (conditions read) → read ≡ texts
-  accepted-whole read held all = whole-within read held (all-first (size_conditions read) (form_conditions read ++ name_conditions read) all)
+module _ (around : Around) (merge : MergeRequest) (ts : Texts) (hold : Hold around merge.files ts) where
+  abbrev behind_sizes : Texts → List Condition
+  behind_sizes read = token_conditions read ++ grammar_conditions read ++ type_conditions read ++ update_conditions merge.points read
 
-  whole-if-accepted : (read : Texts) → AreHeld around.held update read → AllHold (conditions texts) → texts ≡ read
-  whole-if-accepted read held all = within-whole read held (all-first (size_conditions texts) (form_conditions texts ++ name_conditions texts) all)
+  -- the texts that were read, where they are a world
+  whole : (read : Texts) → AreHeld around.held merge.files read → AllHold (conditions merge.points read) → read ≡ ts
+  whole read held all = whole-within around merge.files ts hold read held (all-first (size_conditions read) (behind_sizes read) all)
 
   written-text : (written : Text) → around.written_before ≡ Some written
-      → (reply : Reply) → MergeAllows around.held update reply → reply.status ≡ Done → Put around reply.text
-      → (text : Text) × (around.written_after ≡ Some (written ++ text)) × IsMergedText texts.old texts.new texts.xform text
+      → (reply : Reply) → MergeAllows around.held merge reply → reply.status ≡ Done → Put around reply.text
+      → (text : Text) × (around.written_after ≡ Some (written ++ text)) × IsMergedText merge.points ts text
   written-text written before reply (read, held, merges) is_done put = elim merges [
     | inl (refusal, first, is) ↦ let never : Refused ≡ Done = sym (ap (λ (r : Reply). r.status) is) ∙ is_done in absurd (cc)
-    | inr (text, (accepted, merged), is) ↦ (
+    | inr (text, merged, is) ↦ (
       reply.text,
       appended around.written_before around.written_after written reply.text before put,
-      subst (λ (t : Text). IsMergedText texts.old texts.new texts.xform t) (sym (ap (λ (r : Reply). r.text) is))
-          (subst (λ (t : Texts). IsMergedText t.old t.new t.xform text) (accepted-whole read held accepted) merged),
+      subst (λ (t : Text). IsMergedText merge.points ts t) (sym (ap (λ (r : Reply). r.text) is))
+          (subst (λ (t : Texts). IsMergedText merge.points t text) (whole read held merged.accepted.0) merged),
     )
   ]
 
-  reply-is-done : (reply : Reply) → MergeAllows around.held update reply → AllHold (conditions texts) → reply.status ≡ Done
-  reply-is-done reply (read, held, merges) accepted = elim merges [
-    | inl (refusal, first, is) ↦
-        absurd (no-refusal (conditions read) refusal (subst (λ (t : Texts). AllHold (conditions t)) (whole-if-accepted read held accepted) accepted) first)
-    | inr (text, _, is) ↦ ap (λ (r : Reply). r.status) is
-  ]
+  module _ (all : AllHold (conditions merge.points ts)) where
+    ts-read : (read : Texts) → AreHeld around.held merge.files read → ts ≡ read
+    ts-read read held = within-whole around merge.files ts hold read held (all-first (size_conditions ts) (behind_sizes ts) all)
 
-  accepted-merges : (status : Status) → Outcome around (Some (Merge update)) status → AllHold (conditions texts) → HadNoFault around
-      → (status ≡ Done) ⊎ (status ≡ NoMemory)
-  accepted-merges Done outcome accepted fine = inl refl
-  accepted-merges NotProved (reply, allows, is, put) accepted fine = inl (sym is ∙ reply-is-done reply allows accepted)
-  accepted-merges Refused (reply, allows, is, put) accepted fine = inl (sym is ∙ reply-is-done reply allows accepted)
-  accepted-merges Usage outcome accepted fine = let none = outcome.0 in absurd (cc)
-  accepted-merges ReadFailed outcome accepted fine = absurd (fine.reads outcome.0)
-  accepted-merges WriteFailed outcome accepted fine = absurd (fine.writes outcome.0)
-  accepted-merges NoMemory outcome accepted fine = inr refl
-  accepted-merges Deep outcome accepted fine = absurd outcome.1
+    reply-is-done : (reply : Reply) → MergeAllows around.held merge reply → reply.status ≡ Done
+    reply-is-done reply (read, held, merges) = elim merges [
+      | inl (refusal, first, is) ↦
+          absurd (no-refusal (conditions merge.points read) refusal (subst (λ (t : Texts). AllHold (conditions merge.points t)) (ts-read read held) all) first)
+      | inr (text, merged, is) ↦ ap (λ (r : Reply). r.status) is
+    ]
+
+    accepted-merges : (status : Status) → Outcome around (Some (Merge merge)) status → HadNoFault around
+        → (status ≡ Done) ⊎ (status ≡ NoMemory)
+    accepted-merges Done outcome fine = inl refl
+    accepted-merges NotProved (reply, allows, is, put) fine = inl (sym is ∙ reply-is-done reply allows)
+    accepted-merges Refused (reply, allows, is, put) fine = inl (sym is ∙ reply-is-done reply allows)
+    accepted-merges Usage outcome fine = let none = outcome.0 in absurd (cc)
+    accepted-merges ReadFailed outcome fine = absurd (fine.reads outcome.0)
+    accepted-merges WriteFailed outcome fine = absurd (fine.writes outcome.0)
+    accepted-merges NoMemory outcome fine = inr refl
+    accepted-merges Deep outcome fine = absurd outcome.1
 
 pub writes-merged-text : (around : Around) (request : Option Request) (status : Status) → Outcome around request status → WritesMergedText around request status
-writes-merged-text around request status outcome = λ update texts written asked hold before is_done.
+writes-merged-text around request status outcome = λ merge ts written asked hold before is_done.
     let here : Outcome around request Done = subst (λ (s : Status). Outcome around request s) is_done outcome in
-    let there : Outcome around (Some (Merge update)) Done = subst (λ (r : Option Request). Outcome around r Done) asked here in
-    written-text around update texts hold written before there.0 there.1 there.2 there.3
+    let there : Outcome around (Some (Merge merge)) Done = subst (λ (r : Option Request). Outcome around r Done) asked here in
+    written-text around merge ts hold written before there.0 there.1 there.2 there.3
 
 pub merges-what-is-accepted : (around : Around) (request : Option Request) (status : Status) → Outcome around request status → MergesWhatIsAccepted around request status
-merges-what-is-accepted around request status outcome = λ update texts asked hold accepted fine.
-    accepted-merges around update texts hold status (subst (λ (r : Option Request). Outcome around r status) asked outcome) accepted fine
+merges-what-is-accepted around request status outcome = λ merge ts asked hold all fine.
+    accepted-merges around merge ts hold all status (subst (λ (r : Option Request). Outcome around r status) asked outcome) fine

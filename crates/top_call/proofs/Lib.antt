@@ -1,13 +1,10 @@
 pub mod ReadLemmas
-pub mod WordLemmas
-pub mod FormLemmas
-pub mod NameLemmas
-pub mod FirstFormLemmas
 pub mod HeadlineLemmas
+pub mod MergedTextLemmas
 pub mod RunHeadlineLemmas
 pub mod ReplayHeadlineLemmas
 pub mod RunLemmas
-pub mod ReplayLemmas
+pub mod AcceptedLemmas
 pub mod OptionWordLemmas
-pub mod RunWordLemmas
+pub mod CommandLemmas
 pub mod NumberLemmas

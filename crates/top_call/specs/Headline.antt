@@ -4,11 +4,9 @@ use Rattle.std.specs.Prelude.{◌≡◌, ◌++◌, Option, Some, ◌⊎◌}
 use Rattle.outside.specs.Counts.{Rose}
 use Rattle.c_lang.specs.declared.unit.Unit.TheVariants as unit
 use Rattle.c_lang.specs.declared.program.Program.{Program}
-use Rattle.top_call.specs.Words.{Text, UpdateFiles, RunRequest, ReplayRequest, Request, Merge, Run, Replay}
+use Rattle.top_call.specs.Words.{Text, UpdateFiles, MergeRequest, RunRequest, ReplayRequest, Request, Merge, Run, Replay}
 use Rattle.front_end.specs.Conditions.{AllHold}
-use Rattle.front_end.specs.Worlds as worlds
-use Rattle.front_end.specs.Worlds.{Texts}
-use Rattle.top_call.specs.Merge.{conditions}
+use Rattle.front_end.specs.Worlds.{Texts, conditions}
 use Rattle.top_call.specs.MergedText.{IsMergedText}
 use Rattle.front_end.specs.TypedText.{IsTypedText}
 use Rattle.top_call.specs.Run.{IsRunOf, GoesTooDeep}
@@ -26,20 +24,20 @@ pub record Hold (around : Around) (update : UpdateFiles) (texts : Texts) : Type 
 -- With `Done` the sink gained the merged text of what the files hold.
 abbrev pub WritesMergedText : Around → Option Request → Status → Type 0
 WritesMergedText around request status =
-    (update : UpdateFiles) (texts : Texts) (written : Text)
-    → request ≡ Some (Merge update) → Hold around update texts → around.written_before ≡ Some written → status ≡ Done
-    → (text : Text) × (around.written_after ≡ Some (written ++ text)) × IsMergedText texts.old texts.new texts.xform text
+    (merge : MergeRequest) (ts : Texts) (written : Text)
+    → request ≡ Some (Merge merge) → Hold around merge.files ts → around.written_before ≡ Some written → status ≡ Done
+    → (text : Text) × (around.written_after ≡ Some (written ++ text)) × IsMergedText merge.points ts text
 
 -- Neither files nor sink had a fault.
 pub record HadNoFault (around : Around) : Type 0 where
   pub reads : Rose around.read_faults_before around.read_faults_after → ⊥
   pub writes : Rose around.write_faults_before around.write_faults_after → ⊥
 
--- Texts that meet all conditions are merged, unless there was a fault or memory was wanted.
+-- Texts that meet all conditions of a world are merged, unless there was a fault or memory was wanted.
 abbrev pub MergesWhatIsAccepted : Around → Option Request → Status → Type 0
 MergesWhatIsAccepted around request status =
-    (update : UpdateFiles) (texts : Texts)
-    → request ≡ Some (Merge update) → Hold around update texts → AllHold (conditions texts) → HadNoFault around
+    (merge : MergeRequest) (ts : Texts)
+    → request ≡ Some (Merge merge) → Hold around merge.files ts → AllHold (conditions merge.points ts) → HadNoFault around
     → (status ≡ Done) ⊎ (status ≡ NoMemory)
 
 -- With `Done` the sink gained the lines of the run of the text that the file holds.
@@ -68,5 +66,5 @@ WritesUpdatedEvents around request status =
 abbrev pub ReplaysWhatIsAccepted : Around → Option Request → Status → Type 0
 ReplaysWhatIsAccepted around request status =
     (replay : ReplayRequest) (ts : Texts)
-    → request ≡ Some (Replay replay) → Hold around replay.files ts → AllHold (worlds.conditions replay.points ts) → HadNoFault around
+    → request ≡ Some (Replay replay) → Hold around replay.files ts → AllHold (conditions replay.points ts) → HadNoFault around
     → (status ≡ Done) ⊎ ((status ≡ NoMemory) ⊎ ((status ≡ Deep) × ReplaysTooDeep replay ts))

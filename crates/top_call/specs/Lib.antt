@@ -2,7 +2,6 @@ pub mod Numbers
 pub mod Words
 pub mod Replies
 pub mod Held
-pub mod FirstForm
 pub mod MergedText
 pub mod Merge
 pub mod Shown
@@ -12,5 +11,4 @@ pub mod Stops
 pub mod Around
 pub mod Outcome
 pub mod Seen
-pub mod SeenPrograms
 pub mod Headline

@@ -1,30 +1,25 @@
 -- What the text that `merge` writes is.
-use Rattle.std.specs.Prelude.{◌≡◌}
-use Rattle.c_lines.specs.Lines.{Lines}
-use Rattle.c_lang.specs.declared.unit.Unit.TheVariants.{Old, New, Xform, Merge}
+use Rattle.std.specs.Prelude.{◌≡◌, ◌↔◌, ℕ, ℤ, List, Option}
+use Rattle.c_lang.specs.Limits.{height_limit}
+use Rattle.c_lang.specs.declared.event.Event.{Event}
+use Rattle.c_lang.specs.declared.unit.Unit.TheVariants.{Merge}
 use Rattle.c_lang.specs.declared.program.Program.{Program}
-use Rattle.merge_core.specs.FirstMerge.{IsMergeOf, ShowsTheSame}
+use Rattle.c_grammar.specs.Written.{Parses}
+use Rattle.c_types.specs.Programs.{resolved_program}
+use Rattle.c_types.specs.Types.{Types}
+use Rattle.plain_run.specs.PlainRun.{Obs}
+use Rattle.update_semantics.specs.UpdatingRun.{World, ObsU}
+use Rattle.front_end.specs.Worlds.{Texts, IsAccepted}
 use Rattle.top_call.specs.Words.{Text}
 
--- The text is that of the programs' merge, which shows exactly what the first program shows that is
--- updated once at most.
-abbrev pub IsTextOfMerge : Program → Program → Program → Text → Type 0
-IsTextOfMerge first second transformer text =
-    (merged : Program) × IsMergeOf first second transformer merged × ShowsTheSame first second transformer merged
-    × Lines Merge text merged
-
--- The three texts are those of these programs. The written text is that of exactly one program,
--- and that is their merge, which shows exactly what the old program shows that is updated once at
--- most.
-pub record IsMergedText (old new xform text : Text) : Type 0 where
-  pub first : Program
-  pub second : Program
-  pub transformer : Program
-  pub merged : Program
-  pub old_lines : Lines Old old first
-  pub new_lines : Lines New new second
-  pub xform_lines : Lines Xform xform transformer
-  pub is_merge : IsMergeOf first second transformer merged
-  pub shows : ShowsTheSame first second transformer merged
-  pub text_lines : Lines Merge text merged
-  pub only : (other : Program) → Lines Merge text other → other ≡ merged
+-- The three texts are accepted as a world. The written text is exactly one program, which is typed, and its
+-- observable prefixes are exactly those of the world's updating run: of the old version, updated once at most,
+-- at a permitted point.
+pub record IsMergedText (points : Option (List ℕ)) (ts : Texts) (text : Text) : Type 0 where
+  pub world : World
+  pub accepted : IsAccepted points ts world
+  pub program : Program
+  pub parses : Parses Merge (height_limit Merge) text program
+  pub only : (other : Program) → Parses Merge (height_limit Merge) text other → other ≡ program
+  pub typed : Types Merge program
+  pub shows : (answers : List ℤ) (h : List Event) → Obs (resolved_program program) answers h ↔ ObsU world answers h

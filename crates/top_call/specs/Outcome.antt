@@ -12,18 +12,18 @@ use Rattle.top_call.specs.declared.status.Status.TheVariants.{Done, NotProved, R
 
 -- A line for each command: the files that it names, and what it may reply.
 abbrev pub files_of : Request → List Text
-files_of (Merge update) = names_of update
+files_of (Merge merge) = names_of merge.files
 files_of (Run run) = run.file ∷ []
 files_of (Replay replay) = names_of replay.files
 
 abbrev pub Allows : (Text → Option Text) → Request → Reply → Type 0
-Allows held (Merge update) reply = MergeAllows held update reply
+Allows held (Merge merge) reply = MergeAllows held merge reply
 Allows held (Run run) reply = RunAllows held run reply
 Allows held (Replay replay) reply = ReplayAllows held replay reply
 
 -- The command asks for one frame more than a run may have.
 abbrev pub GoesDeep : (Text → Option Text) → Request → Type 0
-GoesDeep held (Merge update) = ⊥
+GoesDeep held (Merge merge) = ⊥
 GoesDeep held (Run run) = RunGoesDeep held run
 GoesDeep held (Replay replay) = ReplayGoesDeep held replay
 

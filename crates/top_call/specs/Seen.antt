@@ -9,6 +9,7 @@ use Rattle.top_call.specs.declared.words.UpdateFiles.{UpdateFiles}
 use Rattle.top_call.specs.declared.words.Request.{Request}
 use Rattle.top_call.specs.declared.words.Request.TheVariants.{Merge, Run, Replay}
 use Rattle.top_call.specs.declared.run_words.RunRequest.{RunRequest}
+use Rattle.top_call.specs.declared.merge_words.MergeRequest.{MergeRequest}
 use Rattle.top_call.specs.declared.replay_words.ReplayRequest.{ReplayRequest}
 use Rattle.top_call.specs.declared.option_words.Chosen.{Chosen}
 use Rattle.top_call.specs.declared.option_words.Chosen.TheVariants.{Nothing, One, Several}
@@ -34,6 +35,9 @@ seen_naturals numbers = numbers.items
 abbrev pub seen_points : Option (Vec ℕ Global) → Option (List ℕ)
 seen_points points = option_map seen_naturals points
 
+abbrev pub seen_merge : MergeRequest → plain.MergeRequest
+seen_merge merge = record { files = seen_update_files merge.files; points = seen_points merge.points }
+
 abbrev pub seen_replay : ReplayRequest → plain.ReplayRequest
 seen_replay replay = record {
   files = seen_update_files replay.files;
@@ -43,7 +47,7 @@ seen_replay replay = record {
 }
 
 abbrev pub seen : Request → plain.Request
-seen (Merge update) = plain.Merge (seen_update_files update)
+seen (Merge merge) = plain.Merge (seen_merge merge)
 seen (Run run) = plain.Run (seen_run run)
 seen (Replay replay) = plain.Replay (seen_replay replay)
 

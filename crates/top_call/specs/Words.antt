@@ -1,6 +1,6 @@
 -- What the words after the program's name ask for.
 use Rattle.std.specs.Prelude.{ℕ, ℤ, Bool, not, ◌||◌, if◌then◌else◌, List, [], ◌∷◌, ◌++◌, Option, Some, None, nat_eq, bytes_eq, option_map, codes}
-use Rattle.std.specs.List.{list_any, list_all, starts_with}
+use Rattle.std.specs.List.{list_all, starts_with}
 use Rattle.c_lang.specs.Names.{behind}
 use Rattle.top_call.specs.Numbers.{answers_of, points_of, default_steps, steps_of}
 
@@ -12,6 +12,11 @@ pub record UpdateFiles : Type 0 where
   pub old : Text
   pub new : Text
   pub xform : Text
+
+-- the files of an update, and the points that may update where they are listed
+pub record MergeRequest : Type 0 where
+  pub files : UpdateFiles
+  pub points : Option (List ℕ)
 
 -- the file of a merged text, the answers that its run gets, and how many steps it makes
 pub record RunRequest : Type 0 where
@@ -28,7 +33,7 @@ pub record ReplayRequest : Type 0 where
   pub steps : ℕ
 
 pub data Request : Type 0 where
-  Merge : UpdateFiles → Request
+  Merge : MergeRequest → Request
   Run : RunRequest → Request
   Replay : ReplayRequest → Request
 
@@ -40,14 +45,7 @@ abbrev pub three_files : List Text → Option UpdateFiles
 three_files (old ∷ new ∷ xform ∷ []) = Some (record { old = old; new = new; xform = xform })
 three_files _ = None
 
--- the files of an update; there are no options yet
-abbrev pub update_files_of : List Text → Option UpdateFiles
-update_files_of words = if list_any is_option words then None else three_files words
-
-abbrev pub merge_of : List Text → Option Request
-merge_of words = option_map Merge (update_files_of words)
-
--- ---- the words of `run` and of `replay`
+-- ---- words in any order
 
 abbrev pub with_chosen : Option Text → List Text → List Text
 with_chosen None texts = texts
@@ -75,6 +73,9 @@ steps_name = codes "--steps="
 
 abbrev pub points_name : Text
 points_name = codes "--points="
+
+abbrev pub is_merge_word : Text → Bool
+is_merge_word word = not (is_option word) || starts_with nat_eq word points_name
 
 abbrev pub is_run_word : Text → Bool
 is_run_word word = not (is_option word) || (starts_with nat_eq word answers_name || starts_with nat_eq word steps_name)
@@ -109,6 +110,17 @@ run_of words =
 abbrev pub listed : Text → Option (Option (List ℕ))
 listed text = option_map Some (points_of text)
 
+abbrev pub merge_with : Option UpdateFiles → Option (Option (List ℕ)) → Option MergeRequest
+merge_with (Some files) (Some points) = Some (record { files = files; points = points })
+merge_with files points = None
+
+-- three files, and the points at most once, in any order
+abbrev pub merge_of : List Text → Option MergeRequest
+merge_of words =
+    if list_all is_merge_word words
+    then merge_with (three_files (chosen file_in words)) (option_value listed None (chosen (behind points_name) words))
+    else None
+
 abbrev pub replay_with : Option UpdateFiles → Option (Option (List ℕ)) → Option (List ℤ) → Option ℕ → Option ReplayRequest
 replay_with (Some files) (Some points) (Some answers) (Some steps) =
     Some (record { files = files; points = points; answers = answers; steps = steps })
@@ -127,7 +139,7 @@ replay_of words =
 abbrev pub request_of : List Text → Option Request
 request_of [] = None
 request_of (command ∷ words) =
-    if bytes_eq command (codes "merge") then merge_of words
+    if bytes_eq command (codes "merge") then option_map Merge (merge_of words)
     else if bytes_eq command (codes "run") then option_map Run (run_of words)
     else if bytes_eq command (codes "replay") then option_map Replay (replay_of words)
     else None

@@ -95,7 +95,7 @@ fn reply_to<F: Files>(alloc: Global, request: &Request<'_>, files: &mut F) -> Re
         (F.faults files.old) (F.faults files.new) (F.failed files.new) result }
 {
     match request {
-        Request::Merge(update) => merge_reply(alloc, update, files),
+        Request::Merge(merge) => merge_reply(alloc, merge, files),
         Request::Run(run) => run_reply(alloc, run, files),
         Request::Replay(replay) => replay_reply(alloc, replay, files),
     }

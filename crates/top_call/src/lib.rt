@@ -5,7 +5,7 @@
 
 mod call;
 mod merge;
-mod names;
+mod merge_words;
 mod numbers;
 mod option_words;
 mod reading;

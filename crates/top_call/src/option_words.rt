@@ -1,13 +1,14 @@
 //! Options in words, which stand in any order among the files.
 
 ghost use Rattle.std.specs.Prelude.{◌≡◌, List, [], None, IfOk, OnOk, map, option_map, string_bytes};
+ghost use Rattle.std.specs.Option.{option_copied};
 ghost use Rattle.c_lang.specs.Names.{behind};
 ghost use Rattle.top_call.specs.Numbers as numbers;
 ghost use Rattle.top_call.specs.Words as spec;
-ghost use Rattle.top_call.specs.Seen.{IsChosen, seen_numbers, seen_points, seen_text};
+ghost use Rattle.top_call.specs.Seen.{IsChosen, seen_numbers, seen_points, seen_text, seen_update_files};
 
 use crate::numbers::{answers_of, points_of, steps_of};
-use crate::words::is_option;
+use crate::words::{UpdateFiles, is_option};
 use std::alloc::{AllocError, Global};
 
 const ANSWERS: &str = "--answers=";
@@ -81,6 +82,27 @@ pub(crate) fn files_in<'a>(alloc: Global, words: &'a [String]) -> Result<Vec<&'a
     Ok(files)
 }
 
+/// The three files of an update, where the words name three files. The only error is want of memory.
+pub(crate) fn update_files_in<'a>(
+    alloc: Global,
+    words: &'a [String],
+) -> Result<Option<UpdateFiles<'a>>, AllocError>
+    ensures { IfOk result (λ files. option_map seen_update_files files ≡ spec.three_files (spec.chosen spec.file_in (map string_bytes words.entry.now))) }
+{
+    let files = files_in(alloc, words)?;
+    match files.as_slice() {
+        [old, new, xform] => Ok(Some(UpdateFiles { old, new, xform })),
+        _ => Ok(None),
+    }
+}
+
+/// Whether the word is a file or an option of a merge.
+pub(crate) fn is_merge_word(word: &str) -> bool
+    ensures { result ≡ spec.is_merge_word word.now }
+{
+    !is_option(word) || value_in(word, POINTS).is_some()
+}
+
 /// Whether the word is a file or an option of a run.
 pub(crate) fn is_run_word(word: &str) -> bool
     ensures { result ≡ spec.is_run_word word.now }
@@ -133,6 +155,16 @@ pub(crate) fn points_given(
         Chosen::Nothing => Ok(Some(None)),
         Chosen::One(text) => listed(alloc, text),
         Chosen::Several => Ok(None),
+    }
+}
+
+/// Points that are listed, if they are.
+pub(crate) fn listed_points(points: &Option<Vec<u32>>) -> Option<&[u32]>
+    ensures { option_copied result ≡ seen_points points.now }
+{
+    match points {
+        Some(points) => Some(points.as_slice()),
+        None => None,
     }
 }
 

@@ -4,9 +4,11 @@ ghost use Rattle.std.specs.Prelude.{◌≡◌, IfOk, map, option_map, string_byt
 ghost use Rattle.std.specs.List.{list_all};
 ghost use Rattle.std.specs.Option.{option_copied};
 ghost use Rattle.top_call.specs.Words as spec;
-ghost use Rattle.top_call.specs.Seen.{seen_replay, seen_update_files};
+ghost use Rattle.top_call.specs.Seen.{seen_replay};
 
-use crate::option_words::{answers_given, files_in, is_replay_word, points_given, steps_given};
+use crate::option_words::{
+    answers_given, is_replay_word, listed_points, points_given, steps_given, update_files_in,
+};
 use crate::words::UpdateFiles;
 use std::alloc::{AllocError, Global};
 
@@ -25,10 +27,7 @@ impl ReplayRequest<'_> {
     pub fn listed(&self) -> Option<&[u32]>
         ensures { option_copied result ≡ (seen_replay self.now).points }
     {
-        match &self.points {
-            Some(points) => Some(points.as_slice()),
-            None => None,
-        }
+        listed_points(&self.points)
     }
 }
 
@@ -36,20 +35,6 @@ fn are_replay_words(words: &[String]) -> bool
     ensures { result ≡ list_all (λ word. spec.is_replay_word (string_bytes word)) words.now }
 {
     words.iter().all(|word| is_replay_word(word.as_str()))
-}
-
-// The three files that the words name.
-fn update_files_of<'a>(
-    alloc: Global,
-    words: &'a [String],
-) -> Result<Option<UpdateFiles<'a>>, AllocError>
-    ensures { IfOk result (λ files. option_map seen_update_files files ≡ spec.three_files (spec.chosen spec.file_in (map string_bytes words.entry.now))) }
-{
-    let files = files_in(alloc, words)?;
-    match files.as_slice() {
-        [old, new, xform] => Ok(Some(UpdateFiles { old, new, xform })),
-        _ => Ok(None),
-    }
 }
 
 /// What the words behind `replay` ask for: three files, and `--points=LIST`, `--answers=LIST` and
@@ -64,7 +49,7 @@ pub(crate) fn read_replay<'a>(
     if !are_replay_words(words) {
         return Ok(None);
     }
-    let Some(files) = update_files_of(alloc, words)? else {
+    let Some(files) = update_files_in(alloc, words)? else {
         return Ok(None);
     };
     let Some(steps) = steps_given(words) else {

@@ -2,7 +2,7 @@ use Rattle.std.proofs.Common.{inl, subst, sym}
 use Rattle.update_semantics.specs.Worlds.{World, world_of}
 use Rattle.front_end.specs.Worlds.{IsAccepted}
 use Rattle.top_call.specs.Seen.{seen_texts, seen_replay}
-use Rattle.top_call.proofs.ReplayLemmas.{accepted_of_texts, refused_of_texts}
+use Rattle.top_call.proofs.AcceptedLemmas.{accepted_of_texts, refused_of_texts}
 use Rattle.top_call.proofs.replay.reply_to_texts.Goals as goal
 
 pub returns-in-Ok-clause-reply : goal.returns-in-Ok-clause-reply

@@ -1,6 +1,6 @@
 use Rattle.std.proofs.Common.{◌∙◌, sym}
 use Rattle.top_call.specs.Seen.{seen_points, seen_update_files}
-use Rattle.top_call.proofs.RunWordLemmas.{unknown-replay-word, replay-is}
+use Rattle.top_call.proofs.CommandLemmas.{unknown-replay-word, replay-is}
 use Rattle.top_call.proofs.replay_words.read_replay.Goals as goal
 
 pub returns-then-not-are_replay_words : goal.returns-then-not-are_replay_words

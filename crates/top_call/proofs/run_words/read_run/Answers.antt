@@ -1,5 +1,5 @@
 use Rattle.std.proofs.Common.{◌∙◌, sym}
-use Rattle.top_call.proofs.RunWordLemmas.{unknown-word, run-is}
+use Rattle.top_call.proofs.CommandLemmas.{unknown-word, run-is}
 use Rattle.top_call.proofs.run_words.read_run.Goals as goal
 
 pub returns-then-not-are_run_words : goal.returns-then-not-are_run_words

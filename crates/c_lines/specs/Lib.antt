@@ -1,5 +1,0 @@
-pub mod Refusals
-pub mod Code
-pub mod Layout
-pub mod Lines
-pub mod Sources

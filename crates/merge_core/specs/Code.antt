@@ -1,2 +1,0 @@
--- Definitions that mirror the code.
-pub mod MergedProgram
