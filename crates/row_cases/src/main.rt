@@ -4,10 +4,11 @@
 //!
 //! - `file NAME TEXT`: the file holds the text from now on.
 //! - `drop NAME`: there is no such file from now on.
-//! - `keep NAME`: the file holds what the last run put from now on.
 //! - `fail read N`: the read call N of the next run fails, counted from 0.
 //! - `fail put N BYTES`: the put call N of the next run fails after so many bytes.
 //! - `dsu WORDS`: the tool runs on these words. Its status is printed, and what was put.
+//! - `merge NAME WORDS`: `merge` runs on these words, and the file holds what was put from now on. The status
+//!   is printed, and how many bytes were put.
 //! - an empty line, or one that begins with `#`, which is printed as it stands.
 #![tactic(auto)]
 
@@ -61,9 +62,9 @@ fn answer(alloc: Global, setting: &mut Setting, line: &str) -> Result<Option<Str
     match command {
         "file" => set_file(alloc, setting, rest)?,
         "drop" => setting.lose(rest),
-        "keep" => setting.keep(alloc, rest)?,
         "fail" => set_fault(setting, rest)?,
         "dsu" => return Ok(Some(shown(alloc, setting, rest)?)),
+        "merge" => return Ok(Some(merged(alloc, setting, rest)?)),
         _ => bail!("no such command"),
     }
     Ok(None)
@@ -73,8 +74,18 @@ fn answer(alloc: Global, setting: &mut Setting, line: &str) -> Result<Option<Str
 fn shown(alloc: Global, setting: &mut Setting, words: &str) -> Result<String> {
     let (status, put) = setting.run(alloc, words)?;
     let name = name_of(status);
-    let text = str::from_utf8(put)?;
+    let text = str::from_utf8(put.as_slice())?;
     Ok(format!(in alloc; "{name} {}\n{text}", put.len())?)
+}
+
+// The status of a merge, whose text a file then holds.
+fn merged(alloc: Global, setting: &mut Setting, rest: &str) -> Result<String> {
+    let (name, words) = rest.split_once(' ').context("no words")?;
+    let line = format!(in alloc; "merge {words}")?;
+    let (status, put) = setting.run(alloc, line.as_str())?;
+    let shown = format!(in alloc; "{} {}", name_of(status), put.len())?;
+    setting.hold(alloc, name, put)?;
+    Ok(shown)
 }
 
 fn main(rt: HostRuntime) -> Result<()> {

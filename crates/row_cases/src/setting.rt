@@ -13,8 +13,6 @@ pub struct Setting {
     files: Vec<(String, Vec<u8>)>,
     reads: Vec<u64>,
     puts: Vec<(u64, usize)>,
-    /// What the last run put.
-    last: Vec<u8>,
 }
 
 fn words_of(alloc: Global, line: &str) -> Result<Vec<String>, AllocError> {
@@ -46,7 +44,6 @@ impl Setting {
             files: Vec::new(alloc),
             reads: Vec::new(alloc),
             puts: Vec::new(alloc),
-            last: Vec::new(alloc),
         }
     }
 
@@ -63,12 +60,6 @@ impl Setting {
         self.files.retain(|file| file.0.as_str() != name);
     }
 
-    /// The file holds what the last run put from now on.
-    pub fn keep(&mut self, alloc: Global, name: &str) -> Result<(), AllocError> {
-        let last = self.last.as_slice().to_vec(alloc)?;
-        self.hold(alloc, name, last)
-    }
-
     /// This read call of the next run fails.
     pub fn fail_read(&mut self, call: u64) -> Result<(), AllocError> {
         self.reads.push(call)?;
@@ -82,14 +73,13 @@ impl Setting {
     }
 
     /// Runs the tool: its status, and what was put. The next run has no faults.
-    pub fn run(&mut self, alloc: Global, line: &str) -> Result<(Status, &[u8]), AllocError> {
+    pub fn run(&mut self, alloc: Global, line: &str) -> Result<(Status, Vec<u8>), AllocError> {
         let reads = std::mem::replace(&mut self.reads, Vec::new(alloc));
         let puts = std::mem::replace(&mut self.puts, Vec::new(alloc));
         let mut files = MemFiles::new(copy_of(alloc, self.files.as_slice())?, reads);
         let mut out = MemSink::new(vec![in alloc; 0u8; ROOM]?, puts);
         let words = words_of(alloc, line)?;
         let status = dsu(alloc, words.as_slice(), &mut files, &mut out);
-        self.last = out.bytes().to_vec(alloc)?;
-        Ok((status, self.last.as_slice()))
+        Ok((status, out.bytes().to_vec(alloc)?))
     }
 }

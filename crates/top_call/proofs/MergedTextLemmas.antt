@@ -4,7 +4,7 @@ use Rattle.c_lang.specs.declared.event.Event.{Event}
 use Rattle.c_lang.specs.declared.unit.Unit.TheVariants.{Merge}
 use Rattle.c_lang.specs.declared.program.Program.{Program}
 use Rattle.c_types.specs.Kept.{TypedProgram}
-use Rattle.c_parser.proofs.ParsedLaws.{one_of_text}
+use Rattle.c_parser.proofs.WrittenLaws.{one_of_text}
 use Rattle.merge_printer.specs.Checked.{ChecksAs}
 use Rattle.plain_run.specs.PlainRun.{Obs}
 use Rattle.update_semantics.specs.UpdatingRun.{World, ObsU}
