@@ -1,71 +1,65 @@
 #!/usr/bin/env python3
-"""Times `dsu merge` on sources of the first form, and prints its peak memory.
+"""Times `dsu merge` on versions with many functions, and measures its memory.
 
-Build the program first, by `rt run` in crates/dsu. Then run this script at the top of the
-repository. Both versions and the transformer have the size that is printed.
+Build the program first, by `rt run` in crates/dsu. Then run this script at the top of the repository.
+
+Both versions have the size that is printed: a global, a function that is shared and one that changed in every few lines. The
+quickest of three runs counts. This script ends with status 1 where a doubling of the size takes more than 2.3 times as long,
+where less than 5 MB of source are merged a second, or where a byte of written text takes more than 60 bytes of memory beyond
+what a merge of small versions takes.
 """
+import os, pathlib, subprocess, sys, tempfile
 
-import os
-import sys
-import tempfile
-import time
-
-PROGRAM = os.path.abspath("crates/dsu/out/dsu")
-SIZES = [64, 128, 256]
+PROGRAM = pathlib.Path("crates/dsu/out/dsu").resolve()
 
 
-def filled(head, lines, tail, size):
-    """The head, then the lines in turn as long as there is room, then the tail."""
-    text, at = [head], 0
-    left = size - len(head) - len(tail)
-    while len(lines[at % len(lines)]) <= left:
-        line = lines[at % len(lines)]
-        text.append(line)
-        left -= len(line)
-        at += 1
-    return "".join(text) + tail
+def version(size, step, params):
+    """A version of about this size."""
+    text, length, number = [], 0, 0
+    while length < size - 300:
+        piece = (
+            f"int g{number} = {number};\nint f{number}(int x) {{\nif (x < g{number}) {{\nreturn x + {step};\n}}\n"
+            f"int y = h{number}({params[1]});\nreturn y;\n}}\nint h{number}({params[0]}) {{\nreturn a * {step};\n}}\n"
+        )
+        text.append(piece)
+        length += len(piece)
+        number += 1
+    return "".join(text) + "int main(void) {\ndsu_update(1);\nreturn 0;\n}\n"
 
 
-def version(size, point):
-    head = '#include "dsu.h"\nint n = 1;\nint main(void) {\n' + point
-    return filled(head, ["client_out(n);\n", "n = 123456;\n"], "return 0;\n}\n", size)
-
-
-def transformer(size):
-    return filled("void dsu_transform(void) {\n", ["n = 7;\n", "n = 123456;\n"], "}\n", size)
-
-
-def measure(folder, words):
-    """The seconds and the peak memory in KB of one run, and the size of its output."""
-    output = os.path.join(folder, "output")
-    began = time.perf_counter()
-    child = os.fork()
-    if child == 0:
-        os.chdir(folder)
-        file = os.open(output, os.O_WRONLY | os.O_CREAT | os.O_TRUNC)
-        os.dup2(file, 1)
-        os.execv(PROGRAM, [PROGRAM, *words])
-    _, status, usage = os.wait4(child, 0)
-    if os.waitstatus_to_exitcode(status) != 0:
-        sys.exit(f"dsu ended with {os.waitstatus_to_exitcode(status)}")
-    return time.perf_counter() - began, usage.ru_maxrss, os.path.getsize(output)
+def measure(folder):
+    """The quickest of three runs in seconds, the largest run's memory in bytes, and the size of the text."""
+    times, memory, output = [], 0, folder / "merged.c"
+    for _ in range(3):
+        with open(output, "wb") as sink:
+            run = subprocess.Popen([PROGRAM, "merge", "old.c", "new.c", "xform.c"], cwd=folder, stdout=sink)
+            _, status, used = os.wait4(run.pid, 0)
+        if status:
+            sys.exit(f"dsu ended with {os.waitstatus_to_exitcode(status)}")
+        times.append(used.ru_utime + used.ru_stime)
+        memory = max(memory, used.ru_maxrss * 1024)
+    return min(times), memory, output.stat().st_size
 
 
 def main():
-    print("KB a source   seconds   peak MB   KB written")
-    for size in SIZES:
-        with tempfile.TemporaryDirectory() as folder:
-            texts = {
-                "old.c": version(size * 1024, "dsu_update(1);\n"),
-                "new.c": version(size * 1024, ""),
-                "xform.c": transformer(size * 1024),
-            }
-            for name, text in texts.items():
-                with open(os.path.join(folder, name), "w") as file:
-                    file.write(text)
-            runs = [measure(folder, ["merge", *texts]) for _ in range(3)]
-            seconds, peak, written = min(runs)
-            print(f"{size:11}   {seconds:7.3f}   {peak / 1024:7.1f}   {written // 1024:10}")
+    good, rows = True, []
+    with tempfile.TemporaryDirectory() as name:
+        folder = pathlib.Path(name)
+        (folder / "xform.c").write_text("void dsu_transform(void) { }\n")
+        for size in [1, 64, 128, 256]:
+            (folder / "old.c").write_text(version(size * 1000, 1, ("int a", "x")))
+            (folder / "new.c").write_text(version(size * 1000, 2, ("int a, int b", "x, 0")))
+            read = sum((folder / file).stat().st_size for file in ("old.c", "new.c"))
+            rows.append((size, read, *measure(folder)))
+    _, _, _, least, _ = rows[0]
+    print("KB a version   seconds   MB read a second   MB of memory   KB written   bytes of memory a byte written")
+    for size, read, seconds, memory, written in rows[1:]:
+        each = (memory - least) / written
+        print(f"{size:12}   {seconds:7.3f}   {read / seconds / 1e6:16.1f}   {memory / 1e6:12.1f}   {written / 1e3:10.0f}   {each:30.1f}")
+        good = good and read / seconds >= 5e6 and each <= 60
+    for (_, _, before, _, _), (_, _, after, _, _) in zip(rows[1:], rows[2:]):
+        good = good and after <= 2.3 * before
+    sys.exit(0 if good else 1)
 
 
 main()
