@@ -20,10 +20,10 @@ use Rattle.c_lang.specs.declared.stmt.Kind.{Kind}
 use Rattle.c_lang.specs.declared.stmt.Stmt.{Stmt}
 use Rattle.c_lang.specs.declared.stmt.Stmt.TheOpen.{Stmt-F}
 use Rattle.c_lang.specs.declared.stmt.Stmt.TheOpen as one
-use Rattle.merge_core.proofs.MergedStatements.{now_name, wrapper_body}
-use Rattle.merge_core.proofs.EvaluationRenamed.{renamed_value, ev-Var}
-use Rattle.merge_core.proofs.Relation.{Merging, is_there}
-use Rattle.merge_core.proofs.FrameLemmas.{IsMerged}
+use Rattle.merged_runs.proofs.MergedStatements.{now_name, wrapper_body}
+use Rattle.merged_runs.proofs.EvaluationRenamed.{renamed_value, ev-Var}
+use Rattle.merged_runs.proofs.Relation.{Merging, is_there}
+use Rattle.merged_runs.proofs.FrameLemmas.{IsMerged}
 
 module _ (M : Merging) where
   open M use {world as W, value_name as κ', program as P}

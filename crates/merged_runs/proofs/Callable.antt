@@ -33,10 +33,10 @@ use Rattle.c_lang.specs.declared.stmt.Dest.TheVariants.{Nowhere, Into, Fresh}
 use Rattle.c_lang.specs.declared.stmt.Stmt.{Stmt, out-Stmt}
 use Rattle.c_lang.specs.declared.stmt.Stmt.TheOpen.{Stmt-F}
 use Rattle.c_lang.specs.declared.stmt.Stmt.TheOpen as one
-use Rattle.merge_core.proofs.Relation.{Merging, is_there, R, transform_function}
-use Rattle.merge_core.proofs.FrameLemmas.{HasTransform}
-use Rattle.merge_core.proofs.CallLemmas.{HasFuncs, MayCall, IsReady}
-use Rattle.merge_core.proofs.StatementLemmas.{IsReadyFor, matched}
+use Rattle.merged_runs.proofs.Relation.{Merging, is_there, R, transform_function}
+use Rattle.merged_runs.proofs.FrameLemmas.{HasTransform}
+use Rattle.merged_runs.proofs.CallLemmas.{HasFuncs, MayCall, IsReady}
+use Rattle.merged_runs.proofs.StatementLemmas.{IsReadyFor, matched}
 
 module _ (M : Merging) where
   open M use {world as W, program as P}

@@ -33,13 +33,13 @@ use Rattle.c_lang.specs.declared.stmt.Stmt.TheOpen.{Stmt-F}
 use Rattle.c_lang.specs.declared.stmt.Stmt.TheOpen as one
 use Rattle.c_lang.specs.declared.stmt.Stmt.TheVariants as stmt
 use Rattle.c_lang.specs.declared.program.Func.{Func}
-use Rattle.merge_core.proofs.Renaming.{under, renamed_dest}
-use Rattle.merge_core.proofs.MergedStatements.{now_name, choice_name, result_name, transform_name, is_nil, is_set, swap_body, point_body, hand_on, hand, merged_layer, merged_stmt, merged_item}
-use Rattle.merge_core.proofs.EvaluationRenamed.{renamed_value, renamed_answer, number-renamed, ev-Lit, ev-test}
-use Rattle.merge_core.proofs.Relation.{Merging, is_there, flag, transform_function, settled_by, SameState, SameFrame, Hands, Below, R, Follows}
-use Rattle.merge_core.proofs.StateLemmas.{settled_there, carries, value_of-renamed, by_answer, same_stored, same_put_elements, by_elements, renamed_answers, and-renamed, by_values}
-use Rattle.merge_core.proofs.FrameLemmas.{out_merged, there_later, below_later, does_map, after_mark-map, by_test, same_if, IsMerged, same_entry, given-renamed, handed_follows, HasTransform}
-use Rattle.merge_core.proofs.CallLemmas.{Params, IsWrapper, IsDirect, IsCallable, pad, bound-pad, AllAre, all_bound, no_flag-bound, read_args, HasFuncs, MayCall, IsReady}
+use Rattle.merged_runs.proofs.Renaming.{under, renamed_dest}
+use Rattle.merged_runs.proofs.MergedStatements.{now_name, choice_name, result_name, transform_name, is_nil, is_set, swap_body, point_body, hand_on, hand, merged_layer, merged_stmt, merged_item}
+use Rattle.merged_runs.proofs.EvaluationRenamed.{renamed_value, renamed_answer, number-renamed, ev-Lit, ev-test}
+use Rattle.merged_runs.proofs.Relation.{Merging, is_there, flag, transform_function, settled_by, SameState, SameFrame, Hands, Below, R, Follows}
+use Rattle.merged_runs.proofs.StateLemmas.{settled_there, carries, value_of-renamed, by_answer, same_stored, same_put_elements, by_elements, renamed_answers, and-renamed, by_values}
+use Rattle.merged_runs.proofs.FrameLemmas.{out_merged, there_later, below_later, does_map, after_mark-map, by_test, same_if, IsMerged, same_entry, given-renamed, handed_follows, HasTransform}
+use Rattle.merged_runs.proofs.CallLemmas.{Params, IsWrapper, IsDirect, IsCallable, pad, bound-pad, AllAre, all_bound, no_flag-bound, read_args, HasFuncs, MayCall, IsReady}
 
 module _ (M : Merging) where
   open M use {world as W, variable_name as ρ, function_name as κ, value_name as κ', naming as names, program as P}

@@ -1,0 +1,9 @@
+pub mod MergedStatements
+pub mod EvaluationRenamed
+pub mod MergedNames
+pub mod Relation
+pub mod StateLemmas
+pub mod FrameLemmas
+pub mod CallLemmas
+pub mod StatementLemmas
+pub mod Callable
