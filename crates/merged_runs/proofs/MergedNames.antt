@@ -22,7 +22,7 @@ pub to_false : (b : Bool) → (b ≡ true → ⊥) → b ≡ false
 to_false true h = absurd (h refl)
 to_false false h = refl
 
-same_names : (x y : Bytes) → bytes_eq x y ≡ true → x ≡ y
+pub same_names : (x y : Bytes) → bytes_eq x y ≡ true → x ≡ y
 same_names x y h = (bytes_eq-Decides x y).0 h
 
 pub bytes_eq-refl : (x : Bytes) → bytes_eq x x ≡ true
@@ -154,7 +154,7 @@ same_codes (home.Unlinked, x) (home.Xform, y) = kept-own 120 (codes "form_" ++ y
 same_codes (home.Unlinked, x) (home.Client, y) = kept-own 99 (codes "lient_" ++ y) x refl refl
 same_codes (h, x) (k, y) = refl
 
-cell_apart-now : (k : Linked) → bytes_eq (cell_name k) now_name ≡ false
+pub cell_apart-now : (k : Linked) → bytes_eq (cell_name k) now_name ≡ false
 cell_apart-now (home.Both, x) = refl
 cell_apart-now (home.Old, x) = refl
 cell_apart-now (home.New, x) = refl
@@ -199,7 +199,7 @@ written-linked part x = by_bool (same_home (part version.Old x) home.Both)
     (λ h. ap (λ b. written (if b then (home.Both, x) else old_or_new part x (behind (codes "dsu_old_") x) (behind (codes "dsu_new_") x))) h
     ∙ written-old_or_new part x h)
 
-same_home-refl : (h : Home) → same_home h h ≡ true
+pub same_home-refl : (h : Home) → same_home h h ≡ true
 same_home-refl home.Both = refl
 same_home-refl home.Old = refl
 same_home-refl home.New = refl
@@ -217,7 +217,7 @@ by_own_name home_of x y = by_bool (bytes_eq x y)
     never true = refl
     never false = refl
 
-same_home-is : (h k : Home) → same_home h k ≡ true → h ≡ k
+pub same_home-is : (h k : Home) → same_home h k ≡ true → h ≡ k
 same_home-is home.Both home.Both e = refl
 same_home-is home.Old home.Old e = refl
 same_home-is home.New home.New e = refl
