@@ -226,7 +226,7 @@ same_home-is home.Client home.Client e = refl
 same_home-is home.Unlinked home.Unlinked e = refl
 same_home-is h k e = absurd cc
 
-both_true : (a b : Bool) → a && b ≡ true → (a ≡ true) × (b ≡ true)
+pub both_true : (a b : Bool) → a && b ≡ true → (a ≡ true) × (b ≡ true)
 both_true true b e = (refl, e)
 both_true false b e = absurd cc
 
