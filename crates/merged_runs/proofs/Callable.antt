@@ -198,7 +198,7 @@ module _ (M : Merging) where
     AllMay now [] = Unit {0}
     AllMay now (v ∷ vs) = May now v × AllMay now vs
 
-    good_bound : (now : Version) (ps : List (Kind × Bytes)) (vs : List (Value Linked)) → AllMay now vs → (x : Bytes) → GoodLocal now (steps.bound ps vs x)
+    pub good_bound : (now : Version) (ps : List (Kind × Bytes)) (vs : List (Value Linked)) → AllMay now vs → (x : Bytes) → GoodLocal now (steps.bound ps vs x)
     good_bound now [] vs h x = tt
     good_bound now (p ∷ ps) [] h x = good_local now (bytes_eq p.1 x) (Num (pos 0)) (steps.bound ps [] x) tt (good_bound now ps [] tt x)
     good_bound now (p ∷ ps) (v ∷ vs) h x = good_local now (bytes_eq p.1 x) v (steps.bound ps vs x) h.0 (good_bound now ps vs h.1 x)
