@@ -1,5 +1,5 @@
 -- The merged program of two sources of the first form shows what their updating run shows.
-use Rattle.std.proofs.Common.{◌≡◌, ◌+◌, Bool, true, false, if◌then◌else◌, List, [], ◌∷◌, ◌++◌, map, Option, Some, None, unwrap_or, refl, sym, ap, ◌∙◌, subst, codes, ◌⊎◌, inl, inr}
+use Rattle.std.proofs.Common.{◌≡◌, ◌+◌, Bool, true, false, if◌then◌else◌, List, [], ◌∷◌, ◌++◌, map, Option, Some, None, unwrap_or, refl, sym, ap, ◌∙◌, subst, codes, ◌⊎◌, inl, inr, append-nil}
 use Rattle.std.specs.Str.{bytes_eq}
 use Rattle.c_lang.specs.Names.{Bytes}
 use Rattle.plain_run.specs.Moves.{Goes}
@@ -27,13 +27,14 @@ use Rattle.c_lang.specs.declared.program.GlobalVar.{GlobalVar}
 use Rattle.c_lang.specs.declared.program.Func.{Func}
 use Rattle.c_lang.specs.declared.program.Program.{Program}
 use Rattle.merge_core.specs.FirstMerge.{merged_layout, ShowsTheSame, main_at}
-use Rattle.merge_core.proofs.MergedStatements.{result_name, hand_on}
-use Rattle.merge_core.proofs.EvaluationRenamed.{renamed_value}
-use Rattle.merge_core.proofs.MergedNames.{cell_name, code_name, kept, bytes_eq-refl, free-kept, own-kept, variable_name, function_name, merged_naming}
-use Rattle.merge_core.proofs.Relation.{Merging, SameState, SameFrame}
-use Rattle.merge_core.proofs.FrameLemmas.{IsMerged, HasTransform, does_map}
-use Rattle.merge_core.proofs.CallLemmas.{HasFuncs, IsCallable, IsDirect, IsWrapper, MayCall}
-use Rattle.merge_core.proofs.Callable.{Good, same_prefixes}
+use Rattle.merged_program.specs.Names.{result_name, kept_name, cell_name, code_name, variable_name, function_name}
+use Rattle.merged_runs.proofs.MergedStatements.{hand_on}
+use Rattle.merged_runs.proofs.EvaluationRenamed.{renamed_value}
+use Rattle.merged_runs.proofs.MergedNames.{bytes_eq-refl, free-kept, own-kept, merged_naming}
+use Rattle.merged_runs.proofs.Relation.{Merging, SameState, SameFrame}
+use Rattle.merged_runs.proofs.FrameLemmas.{IsMerged, HasTransform, same_entry}
+use Rattle.merged_runs.proofs.CallLemmas.{HasFuncs, IsCallable, IsDirect, IsWrapper, MayCall}
+use Rattle.merged_runs.proofs.Callable.{Good, same_prefixes}
 use Rattle.merge_core.proofs.FirstBodies.{merged-old_body, merged-new_body, merged-setter_body}
 use Rattle.merge_core.proofs.FirstWorld.{FirstParts, IsKeyOr, FunctionIs}
 use Rattle.merge_core.proofs.FirstWorld as parts
@@ -60,10 +61,10 @@ module _ (F : FirstParts) where
   abbrev M : Merging
   M = record {
     world = W;
-    variable_name = variable_name W (parts.alike F);
-    function_name = function_name W (parts.alike F);
+    variable_name = variable_name W;
+    function_name = function_name W;
     value_name = code_name;
-    naming = merged_naming W (parts.alike F);
+    naming = merged_naming W;
     program = P;
   }
 
@@ -75,21 +76,27 @@ module _ (F : FirstParts) where
   merged_old : IsMerged M origin.Old (func_in W.first.funcs (codes "main")) (func_in P.funcs (codes "dsu_old_main"))
   merged_old = record {
     params = refl;
-    body = merged-old_body W.permits M.variable_name M.function_name N (λ k. refl) (shared_name origin.Old tt) (first_line F.old_includes + 2) F.old_actions;
+    behind = [];
+    is_behind = inl refl;
+    body = merged-old_body W.permits M.variable_name M.function_name N (λ k. refl) (shared_name origin.Old tt) (first_line F.old_includes + 2) F.old_actions ∙ sym (append-nil _);
     gives = refl;
   }
 
   merged_new : IsMerged M origin.New (func_in W.second.funcs (codes "main")) (func_in P.funcs (codes "dsu_new_main"))
   merged_new = record {
     params = refl;
-    body = merged-new_body W.permits M.variable_name M.function_name N (shared_name origin.New tt) (first_line F.new_includes + 2) F.new_actions;
+    behind = [];
+    is_behind = inl refl;
+    body = merged-new_body W.permits M.variable_name M.function_name N (shared_name origin.New tt) (first_line F.new_includes + 2) F.new_actions ∙ sym (append-nil _);
     gives = refl;
   }
 
   merged_transform : IsMerged M origin.Xform (func_in W.xform.funcs (codes "dsu_transform")) (func_in P.funcs (codes "dsu_xform_dsu_transform"))
   merged_transform = record {
     params = refl;
-    body = merged-setter_body W.permits M.variable_name M.function_name N (shared_name origin.Xform tt) 2 F.set_values;
+    behind = [];
+    is_behind = inl refl;
+    body = merged-setter_body W.permits M.variable_name M.function_name N (shared_name origin.Xform tt) 2 F.set_values ∙ sym (append-nil _);
     gives = refl;
   }
 
@@ -111,8 +118,8 @@ module _ (F : FirstParts) where
   }
 
   -- the merged program has no function under the name of one that is linked nowhere
-  func_in-kept : (f : Bytes) → bytes_eq (codes "main") f ≡ false → func_in P.funcs (kept f) ≡ no_func
-  func_in-kept f apart = ap (λ (d : Option Func). unwrap_or d no_func) (func_named-none P.funcs (kept f) (
+  func_in-kept : (f : Bytes) → bytes_eq (codes "main") f ≡ false → func_in P.funcs (kept_name f) ≡ no_func
+  func_in-kept f apart = ap (λ (d : Option Func). unwrap_or d no_func) (func_named-none P.funcs (kept_name f) (
     own-kept 111 (codes "ld_main") f refl refl,
     (
       own-kept 110 (codes "ew_main") f refl refl,
@@ -127,7 +134,7 @@ module _ (F : FirstParts) where
   ))
 
   no_function : (now : Version) (f : Bytes) → bytes_eq (codes "main") f ≡ false → IsDirect M now (home.Unlinked, f)
-  no_function now f apart = subst (IsMerged M origin.Old no_func) (sym (func_in-kept f apart)) (record { params = refl; body = refl; gives = refl })
+  no_function now f apart = subst (IsMerged M origin.Old no_func) (sym (func_in-kept f apart)) (record { params = refl; behind = []; is_behind = inl refl; body = refl; gives = refl })
 
   callable : (now : Version) (linked : Linked) (f : Bytes) → FunctionIs F linked f → IsCallable M now linked
   callable now linked f (inl e) = subst (IsCallable M now) (sym e) wrapper
@@ -135,10 +142,7 @@ module _ (F : FirstParts) where
   callable now linked f (inr (inr e)) = subst (IsCallable M now) (sym e.0) (no_function now f e.1)
 
   functions : HasFuncs M
-  functions = record {
-    callable = λ o now f there. callable now (function_meaning W o now f) f (parts.function-is F o now f);
-    there = λ o now f there y. parts.always_there F now (code_of W now (function_meaning W o now f)).0 y;
-  }
+  functions = record { callable = λ o now f. callable now (function_meaning W o f) f (parts.function-is F o f) }
 
   -- ---- the start
 
@@ -159,9 +163,9 @@ module _ (F : FirstParts) where
   global_named-old = ap (λ b. if◌then◌else◌ {A = Option GlobalVar} b (Some cell) None) (bytes_eq-refl N)
 
   -- and a name that is linked nowhere has none
-  global_named-kept : (x : Bytes) → global_named P.globals (kept x) ≡ None
+  global_named-kept : (x : Bytes) → global_named P.globals (kept_name x) ≡ None
   global_named-kept x =
-      ap (λ b. if◌then◌else◌ {A = Option GlobalVar} b (Some (global (codes "dsu_now") 0 (at unit.Merge 1))) (global_named (global (both_name N) F.old_value (at unit.Old (first_line F.old_includes)) ∷ []) (kept x))) (own-kept 110 (codes "ow") x refl refl)
+      ap (λ b. if◌then◌else◌ {A = Option GlobalVar} b (Some (global (codes "dsu_now") 0 (at unit.Merge 1))) (global_named (global (both_name N) F.old_value (at unit.Old (first_line F.old_includes)) ∷ []) (kept_name x))) (own-kept 110 (codes "ow") x refl refl)
       ∙ ap (λ b. if◌then◌else◌ {A = Option GlobalVar} b (Some (global (both_name N) F.old_value (at unit.Old (first_line F.old_includes)))) None) (own-kept 98 (codes "oth_" ++ N) x refl refl)
 
   -- the state as it would be after a swap at once
@@ -175,7 +179,7 @@ module _ (F : FirstParts) where
 
   shared_at_start : at_start (home.Both, N)
   shared_at_start = (
-    ap (initial_value (λ f. f)) global_named-both ∙ ap (λ g. renamed_value code_name (initial_value (function_meaning W origin.Old version.Old) g)) (sym global_named-old),
+    ap (initial_value (λ f. f)) global_named-both ∙ ap (λ g. renamed_value code_name (initial_value (function_meaning W origin.Old) g)) (sym global_named-old),
     ap initial_elements global_named-both ∙ ap initial_elements (sym global_named-old),
   )
 
@@ -210,13 +214,7 @@ module _ (F : FirstParts) where
   called_frame = steps.frame_of (plain_access P) (tt, merged_old_main) [] (Fresh kind.Int result_name)
 
   start_frame : SameFrame M version.Old first_frame called_frame
-  start_frame = record {
-    there = λ x. parts.always_there F version.Old origin.Old x;
-    locals = λ x. refl;
-    no_flag = refl;
-    items = ap (map Does) merged_old.body ∙ does_map M origin.Old old_main.body;
-    gives = refl;
-  }
+  start_frame = same_entry M version.Old origin.Old old_main merged_old_main [] Nowhere (Fresh kind.Int result_name) refl merged_old
 
   abbrev p0 : Pos
   p0 = main_at unit.Old (parts.old F)
@@ -232,17 +230,17 @@ module _ (F : FirstParts) where
   first_step = ap (λ l. steps.act (plain_access P) (dropped P) store waiting [] (stmt.Call p0 (Fresh kind.Int result_name) (codes "dsu_old_main") []) l)
       (stmt.outs-Call p0 (Fresh kind.Int result_name) (codes "dsu_old_main") [])
 
-  new_may : (x : Bytes) → MayCall M version.New (initial_value (function_meaning W origin.New version.New) (global_named W.second.globals x))
+  new_may : (x : Bytes) → MayCall M version.New (initial_value (function_meaning W origin.New) (global_named W.second.globals x))
   new_may x = by_cases (bytes_eq N x)
     where
-      by_cases : (b : Bool) → MayCall M version.New (initial_value (function_meaning W origin.New version.New) (if◌then◌else◌ {A = Option GlobalVar} b (Some (global N F.new_value (at unit.New (first_line F.new_includes)))) None))
+      by_cases : (b : Bool) → MayCall M version.New (initial_value (function_meaning W origin.New) (if◌then◌else◌ {A = Option GlobalVar} b (Some (global N F.new_value (at unit.New (first_line F.new_includes)))) None))
       by_cases true = tt
       by_cases false = tt
 
-  old_may : (x : Bytes) → MayCall M version.Old (initial_value (function_meaning W origin.Old version.Old) (global_named W.first.globals x))
+  old_may : (x : Bytes) → MayCall M version.Old (initial_value (function_meaning W origin.Old) (global_named W.first.globals x))
   old_may x = by_cases (bytes_eq N x)
     where
-      by_cases : (b : Bool) → MayCall M version.Old (initial_value (function_meaning W origin.Old version.Old) (if◌then◌else◌ {A = Option GlobalVar} b (Some cell) None))
+      by_cases : (b : Bool) → MayCall M version.Old (initial_value (function_meaning W origin.Old) (if◌then◌else◌ {A = Option GlobalVar} b (Some cell) None))
       by_cases true = tt
       by_cases false = tt
 
@@ -255,7 +253,7 @@ module _ (F : FirstParts) where
   start_may home.Unlinked x = tt
 
   start_good : Good M functions (start_updating W)
-  start_good = (start_may, record { there = λ x. parts.always_there F version.Old origin.Old x; locals = λ x. tt }, tt)
+  start_good = (start_may, record { stands = refl; locals = λ x. tt }, tt)
 
   pub shows_the_same : ShowsTheSame (parts.first F) (parts.second F) (parts.xform F) P
   shows_the_same answers h =

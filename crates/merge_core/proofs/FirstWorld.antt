@@ -19,8 +19,7 @@ use Rattle.c_lang.specs.declared.program.GlobalVar.{GlobalVar}
 use Rattle.c_lang.specs.declared.program.Func.{Func}
 use Rattle.c_lang.specs.declared.program.Program.{Program}
 use Rattle.merge_core.specs.FirstMerge.{world_of}
-use Rattle.merge_core.proofs.MergedNames.{by_bool, true_false, bytes_eq-refl}
-use Rattle.merge_core.proofs.Relation.{is_there}
+use Rattle.merged_runs.proofs.MergedNames.{by_bool, true_false, bytes_eq-refl}
 
 -- ---- names of which one alone is shared
 
@@ -184,9 +183,6 @@ module _ (F : FirstParts) where
   cell_meaning-name origin.Xform p = at_key _ (prefix-is N (cell_part first second) cells-shared N)
   cell_meaning-name origin.Client p = absurd p
 
-  pub alike : (f : Bytes) → code_part first second version.Old f ≡ code_part first second version.New f
-  alike f = codes-shared version.Old f ∙ sym (codes-shared version.New f)
-
   -- a function's name stands for the shared `main`, the transformer, or nothing
   abbrev pub FunctionIs : Linked → Bytes → Type 0
   FunctionIs linked f =
@@ -196,37 +192,20 @@ module _ (F : FirstParts) where
   from_key linked f (inl e) = inl e
   from_key linked f (inr e) = inr (inr e)
 
-  pub function-is : (o : Provenance) (now : Version) (f : Bytes) → FunctionIs (function_meaning W o now f) f
-  function-is origin.Old now f = from_key _ f (plain-is main_name (code_part first second) codes-shared version.Old f)
-  function-is origin.New now f = from_key _ f (plain-is main_name (code_part first second) codes-shared version.New f)
-  function-is origin.Client now f = from_key _ f (plain-is main_name (code_part first second) codes-shared now f)
-  function-is origin.Xform now f = by_bool (bytes_eq (codes "dsu_transform") f)
+  pub function-is : (o : Provenance) (f : Bytes) → FunctionIs (function_meaning W o f) f
+  function-is origin.Old f = from_key _ f (plain-is main_name (code_part first second) codes-shared version.Old f)
+  function-is origin.New f = from_key _ f (plain-is main_name (code_part first second) codes-shared version.New f)
+  function-is origin.Client f = from_key _ f (prefix-is main_name (code_part first second) codes-shared f)
+  function-is origin.Xform f = by_bool (bytes_eq (codes "dsu_transform") f)
       (λ h. inr (inl (own h)))
       (λ h. subst (λ (k : Linked). FunctionIs k f) (sym (other h)) (from_key (linked_by_prefix (code_part first second) f) f (prefix-is main_name (code_part first second) codes-shared f)))
     where
       transform : Func
       transform = function (codes "dsu_transform") false (setter_body N 2 F.set_values) (at unit.Xform 1)
 
-      own : bytes_eq (codes "dsu_transform") f ≡ true → function_meaning W origin.Xform now f ≡ (home.Xform, codes "dsu_transform")
+      own : bytes_eq (codes "dsu_transform") f ≡ true → function_meaning W origin.Xform f ≡ (home.Xform, codes "dsu_transform")
       own h = ap (λ b. if is_some (if_key b transform) then (home.Xform, f) else linked_by_prefix (code_part first second) f) h
           ∙ ap (λ (y : Bytes). (home.Xform, y)) (sym ((bytes_eq-Decides (codes "dsu_transform") f).0 h))
 
-      other : bytes_eq (codes "dsu_transform") f ≡ false → function_meaning W origin.Xform now f ≡ linked_by_prefix (code_part first second) f
+      other : bytes_eq (codes "dsu_transform") f ≡ false → function_meaning W origin.Xform f ≡ linked_by_prefix (code_part first second) f
       other h = ap (λ b. if is_some (if_key b transform) then (home.Xform, f) else linked_by_prefix (code_part first second) f) h
-
-  there-both : (now : Version) → is_there now home.Both ≡ true
-  there-both version.Old = refl
-  there-both version.New = refl
-
-  there-unlinked : (now : Version) → is_there now home.Unlinked ≡ true
-  there-unlinked version.Old = refl
-  there-unlinked version.New = refl
-
-  -- no cell is the new version's alone
-  pub always_there : (now : Version) (o : Provenance) (x : Bytes) → is_there now (cell_meaning W o x).0 ≡ true
-  always_there now o x = by_meaning (cell-is o x)
-    where
-      by_meaning : IsKeyOr N (cell_meaning W o x) x ⊎ (cell_meaning W o x ≡ (home.Unlinked, x)) → is_there now (cell_meaning W o x).0 ≡ true
-      by_meaning (inl (inl e)) = ap (λ (k : Linked). is_there now k.0) e ∙ there-both now
-      by_meaning (inl (inr e)) = ap (λ (k : Linked). is_there now k.0) e.0 ∙ there-unlinked now
-      by_meaning (inr e) = ap (λ (k : Linked). is_there now k.0) e ∙ there-unlinked now

@@ -1,13 +1,3 @@
-pub mod Renaming
-pub mod MergedStatements
-pub mod EvaluationRenamed
-pub mod Relation
-pub mod StateLemmas
-pub mod FrameLemmas
-pub mod CallLemmas
-pub mod StatementLemmas
-pub mod Callable
-pub mod MergedNames
 pub mod FirstBodies
 pub mod FirstWorld
 pub mod FirstTheorem
