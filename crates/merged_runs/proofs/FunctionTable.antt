@@ -17,8 +17,7 @@ use Rattle.version_names.specs.Home.{Home, Linked, same_home, same_linked}
 use Rattle.version_names.specs.Home as home
 use Rattle.version_names.specs.Provenance.{Provenance}
 use Rattle.version_names.specs.Provenance as origin
-use Rattle.version_names.specs.Merged.{merged_name}
-use Rattle.update_semantics.specs.UpdatingRun.{World, Specification, client_funcs, code_of}
+use Rattle.update_semantics.specs.UpdatingRun.{World, Specification, client_funcs}
 use Rattle.merged_program.specs.Names.{code_name, variable_name, function_name}
 use Rattle.merged_program.specs.Programs.{ending, wrapper, merged_func, old_func, new_func, xform_func, client_func, is_wrapped, merged_main, merged_funcs, merged_program}
 use Rattle.merged_runs.proofs.MergedStatements.{return_zero, bodies-merged}
@@ -26,7 +25,7 @@ use Rattle.merged_runs.proofs.MergedNames.{same_codes, merged_naming}
 use Rattle.merged_runs.proofs.Relation.{Merging, transform_function}
 use Rattle.merged_runs.proofs.FrameLemmas.{IsBehind, IsMerged, HasTransform}
 use Rattle.merged_runs.proofs.CallLemmas.{IsDirect}
-use Rattle.merged_runs.proofs.Lookups.{named, name_of_func, func_named-is, or_else, or_none, named-append, named-filter, named-map}
+use Rattle.merged_runs.proofs.Lookups.{name_of_func, func_named-is, or_else, or_none, named-append, named-filter, named-map}
 
 module _ (W : World) where
   abbrev pub M : Merging

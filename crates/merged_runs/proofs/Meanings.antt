@@ -3,7 +3,6 @@ use Rattle.std.proofs.Common.{◌≡◌, Bool, true, false, if◌then◌else◌,
 use Rattle.std.specs.Str.{bytes_eq}
 use Rattle.c_lang.specs.Names.{Bytes, behind}
 use Rattle.c_lang.specs.Programs.{func_named, global_named}
-use Rattle.c_lang.specs.declared.program.Shape.{Shape}
 use Rattle.c_lang.specs.declared.program.GlobalVar.{GlobalVar}
 use Rattle.version_names.specs.Links as links
 use Rattle.version_names.specs.Links.{both_alike, same_shape, same_head, is_shared_cell, is_shared_code, cell_part, code_part}

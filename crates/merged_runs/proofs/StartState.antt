@@ -1,5 +1,5 @@
 -- The globals of a merged program by their names, and what they hold at the start.
-use Rattle.std.proofs.Common.{◌≡◌, ℤ, pos, Bool, true, false, not, ◌&&◌, if◌then◌else◌, List, [], ◌∷◌, ◌++◌, map, Option, Some, None, is_some, refl, sym, ap, ap₂, ◌∙◌, subst, ◌⊎◌, inl, inr}
+use Rattle.std.proofs.Common.{◌≡◌, Bool, true, false, not, ◌&&◌, if◌then◌else◌, List, ◌++◌, map, Option, Some, None, is_some, refl, sym, ap, ap₂, ◌∙◌, subst, ◌⊎◌, inl, inr}
 use Rattle.std.specs.Option.{option_map}
 use Rattle.std.specs.List.{filter}
 use Rattle.std.specs.Str.{bytes_eq}
@@ -23,7 +23,7 @@ use Rattle.merged_program.specs.Programs.{flag, merged_shape, merged_global, is_
 use Rattle.merged_runs.proofs.EvaluationRenamed.{renamed_value}
 use Rattle.merged_runs.proofs.MergedNames.{true_false, bytes_eq-sym, same_cells, cell_apart-now, merged_naming}
 use Rattle.merged_runs.proofs.Relation.{SameState}
-use Rattle.merged_runs.proofs.Lookups.{named, name_of_global, global_named-is, or_else, or_some, some_mapped, named-append, named-filter, named-map, named-absent, filter-passes}
+use Rattle.merged_runs.proofs.Lookups.{name_of_global, global_named-is, or_else, or_some, some_mapped, named-append, named-filter, named-map, named-absent, filter-passes}
 use Rattle.merged_runs.proofs.Meanings.{IsFoundCell, cell-found}
 use Rattle.merged_runs.proofs.FunctionTable.{M}
 

@@ -1,6 +1,5 @@
 -- The merged program of a world without client shows what its updating run shows.
 use Rattle.std.proofs.Common.{◌≡◌, ℕ, ℤ, ◌≤◌, Bool, true, false, if◌then◌else◌, List, [], ◌∷◌, ◌++◌, map, Option, Some, None, refl, sym, ap, ◌∙◌, subst, length, codes, ◌↔◌}
-use Rattle.std.specs.Str.{bytes_eq}
 use Rattle.c_lang.specs.Names.{Bytes}
 use Rattle.c_lang.specs.Limits.{parameter_limit}
 use Rattle.c_lang.specs.Trees.{stmts_of}
@@ -20,7 +19,7 @@ use Rattle.c_lang.specs.declared.program.Program.{Program}
 use Rattle.plain_run.specs.Moves.{Goes}
 use Rattle.plain_run.specs.Steps as steps
 use Rattle.plain_run.specs.Steps.{Item, Does, Live}
-use Rattle.plain_run.specs.PlainRun.{Store, PlainFrame, PlainConfig, plain_access, dropped, step, start, Obs}
+use Rattle.plain_run.specs.PlainRun.{PlainFrame, PlainConfig, plain_access, dropped, step, start, Obs}
 use Rattle.plain_run.proofs.Simulation.{Comes, silently, goes_once}
 use Rattle.version_names.specs.Links.{is_shared_code}
 use Rattle.version_names.specs.Version.{Version}
@@ -32,7 +31,7 @@ use Rattle.version_names.specs.Provenance as origin
 use Rattle.update_semantics.specs.UpdatingRun.{World, UpdFrame, function_meaning, updating_access, first_state, start_updating, ObsU}
 use Rattle.merged_program.specs.Names.{result_name, code_name}
 use Rattle.merged_program.specs.Statements as merged
-use Rattle.merged_program.specs.Programs.{starting, merged_funcs, merged_program}
+use Rattle.merged_program.specs.Programs.{starting, merged_program}
 use Rattle.merged_runs.proofs.MergedStatements.{return_zero, hand_on}
 use Rattle.merged_runs.proofs.Relation.{can_stand, SameFrame, Ends, R}
 use Rattle.merged_runs.proofs.FrameLemmas.{same_entry}

@@ -8,11 +8,10 @@ use Rattle.c_lang.specs.Limits.{parameter_limit}
 use Rattle.c_lang.specs.Kinds.{same_kinds, same_result}
 use Rattle.c_lang.specs.Programs.{func_named, func_in, no_func}
 use Rattle.c_lang.specs.declared.program.Func.{Func}
-use Rattle.c_lang.specs.declared.program.Program.{Program}
 use Rattle.c_types.specs.Names.{Means, Entries, found, added}
 use Rattle.c_types.specs.Functions.{kinds_of, means_of_func, is_main, resolved_func}
 use Rattle.c_types.specs.Programs.{outside_of, with_func, with_globals, resolved_funcs, is_empty, is_start, has_main}
-use Rattle.c_types.specs.Types.{AreTypedFuncs, Types}
+use Rattle.c_types.specs.Types.{AreTypedFuncs}
 use Rattle.c_types.specs.Kept.{TypedProgram, IsKept}
 use Rattle.version_names.specs.Links.{both_alike, same_head, is_shared_code}
 use Rattle.merged_runs.proofs.MergedNames.{by_bool, true_false, same_names, bytes_eq-refl}
