@@ -1,5 +1,5 @@
 -- The merged program of two sources of the first form shows what their updating run shows.
-use Rattle.std.proofs.Common.{◌≡◌, ◌+◌, Bool, true, false, if◌then◌else◌, List, [], ◌∷◌, ◌++◌, map, Option, Some, None, unwrap_or, refl, sym, ap, ◌∙◌, subst, codes, ◌⊎◌, inl, inr, append-nil}
+use Rattle.std.proofs.Common.{◌≡◌, ◌+◌, Bool, true, false, if◌then◌else◌, List, [], ◌∷◌, ◌++◌, Option, Some, None, unwrap_or, refl, sym, ap, ◌∙◌, subst, codes, ◌⊎◌, inl, inr, append-nil}
 use Rattle.std.specs.Str.{bytes_eq}
 use Rattle.c_lang.specs.Names.{Bytes}
 use Rattle.plain_run.specs.Moves.{Goes}
@@ -16,7 +16,7 @@ use Rattle.version_names.specs.Home.{Home, Linked}
 use Rattle.version_names.specs.Home as home
 use Rattle.version_names.specs.Provenance.{Provenance}
 use Rattle.version_names.specs.Provenance as origin
-use Rattle.update_semantics.specs.UpdatingRun.{World, State, swapped_state, UpdFrame, cell_meaning, function_meaning, code_of, updating_access, first_state, start_updating}
+use Rattle.update_semantics.specs.UpdatingRun.{World, State, swapped_state, UpdFrame, cell_meaning, function_meaning, updating_access, first_state, start_updating}
 use Rattle.plain_run.proofs.Simulation.{silently, goes_once}
 use Rattle.c_lang.specs.declared.unit.Pos.{Pos}
 use Rattle.c_lang.specs.declared.unit.Unit.TheVariants as unit
