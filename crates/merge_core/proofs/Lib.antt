@@ -1,16 +1,1 @@
-pub mod Renaming
-pub mod MergedStatements
-pub mod EvaluationRenamed
-pub mod Relation
-pub mod StateLemmas
-pub mod FrameLemmas
-pub mod CallLemmas
-pub mod StatementLemmas
-pub mod Callable
-pub mod MergedNames
-pub mod FirstBodies
-pub mod FirstWorld
-pub mod FirstTheorem
-pub mod LineCounts
-pub mod FirstForms
-pub mod PrintedLayout
+pub mod MergeLaws

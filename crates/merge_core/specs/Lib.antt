@@ -1,2 +1,0 @@
-pub mod FirstMerge
-pub mod Code

@@ -1,5 +1,5 @@
 -- Each step of the updating run is one or more steps of the merged program.
-use Rattle.std.proofs.Common.{◌≡◌, ℕ, pos, Bool, true, false, not, ◌&&◌, if◌then◌else◌, List, [], ◌∷◌, ◌++◌, map, Option, Some, None, Ok, refl, sym, ap, ap₂, ◌∙◌, subst, inl, inr, length, arith, append-nil}
+use Rattle.std.proofs.Common.{◌≡◌, ℕ, pos, Bool, true, false, not, ◌&&◌, if◌then◌else◌, List, [], ◌∷◌, ◌++◌, map, Option, Some, None, Ok, refl, sym, ap, ap₂, ◌∙◌, subst, inl, inr, length, arith, append-nil, append_assoc}
 use Rattle.std.specs.Str.{bytes_eq}
 use Rattle.std.proofs.lemmas.List.{map-append}
 use Rattle.c_lang.specs.Names.{Bytes}
@@ -33,13 +33,14 @@ use Rattle.c_lang.specs.declared.stmt.Stmt.TheOpen.{Stmt-F}
 use Rattle.c_lang.specs.declared.stmt.Stmt.TheOpen as one
 use Rattle.c_lang.specs.declared.stmt.Stmt.TheVariants as stmt
 use Rattle.c_lang.specs.declared.program.Func.{Func}
-use Rattle.merge_core.proofs.Renaming.{under, renamed_dest}
-use Rattle.merge_core.proofs.MergedStatements.{now_name, choice_name, result_name, transform_name, is_nil, is_set, swap_body, point_body, hand_on, hand, merged_layer, merged_stmt, merged_item}
-use Rattle.merge_core.proofs.EvaluationRenamed.{renamed_value, renamed_answer, number-renamed, ev-Lit, ev-test}
-use Rattle.merge_core.proofs.Relation.{Merging, is_there, flag, transform_function, settled_by, SameState, SameFrame, Hands, Below, R, Follows}
-use Rattle.merge_core.proofs.StateLemmas.{settled_there, carries, value_of-renamed, by_answer, same_stored, same_put_elements, by_elements, renamed_answers, and-renamed, by_values}
-use Rattle.merge_core.proofs.FrameLemmas.{out_merged, there_later, below_later, does_map, after_mark-map, by_test, same_if, IsMerged, same_entry, given-renamed, handed_follows, HasTransform}
-use Rattle.merge_core.proofs.CallLemmas.{Params, IsWrapper, IsDirect, IsCallable, pad, bound-pad, AllAre, all_bound, no_flag-bound, read_args, HasFuncs, MayCall, IsReady}
+use Rattle.merged_program.specs.Names.{now_name, choice_name, result_name}
+use Rattle.merged_program.specs.Expressions.{renamed_dest}
+use Rattle.merged_runs.proofs.MergedStatements.{under, transform_name, is_nil, is_set, swap_body, point_body, hand_on, hand, merged_layer, merged_stmt, merged_item, out_merged}
+use Rattle.merged_runs.proofs.EvaluationRenamed.{renamed_value, renamed_answer, number-renamed, ev-Lit, ev-test}
+use Rattle.merged_runs.proofs.Relation.{Merging, can_stand, flag, transform_function, settled_by, SameState, SameFrame, Hands, Below, R, Follows}
+use Rattle.merged_runs.proofs.StateLemmas.{cells_there, settled_there, carries, value_of-renamed, by_answer, same_stored, same_put_elements, by_elements, renamed_answers, and-renamed, by_values}
+use Rattle.merged_runs.proofs.FrameLemmas.{stands_later, tail_hands, below_later, does_map, after_mark-map, by_test, same_if, IsMerged, same_entry, given-renamed, handed_follows, HasTransform}
+use Rattle.merged_runs.proofs.CallLemmas.{Params, IsWrapper, IsDirect, IsCallable, pad, bound-pad, AllAre, all_bound, no_flag-bound, read_args, HasFuncs, MayCall, named_may, IsReady}
 
 module _ (M : Merging) where
   open M use {world as W, variable_name as ρ, function_name as κ, value_name as κ', naming as names, program as P}
@@ -67,10 +68,14 @@ module _ (M : Merging) where
     same_before new new' e = (
       ss,
       record {
-        there = sf.there;
+        stands = sf.stands;
         locals = sf.locals;
         no_flag = sf.no_flag;
-        items = ap₂ ◌++◌ e sf.items ∙ sym (map-append (merged_item W.permits ρ κ f.origin) new f.items);
+        tail = sf.tail;
+        is_tail = sf.is_tail;
+        items =
+            ap₂ ◌++◌ e sf.items ∙ sym (append_assoc (map (merged_item W.permits ρ κ f.origin) new) _ sf.tail)
+            ∙ ap (λ l. l ++ sf.tail) (sym (map-append (merged_item W.permits ρ κ f.origin) new f.items));
         gives = sf.gives;
       },
       sb,
@@ -130,13 +135,13 @@ module _ (M : Merging) where
       }
 
       swap_frame : SameFrame M version.New (steps.frame_of NU (code_of W version.New (home.Xform, transform_function)) [] Nowhere) (steps.frame_of NP (tt, func_in P.funcs transform_name) [] Nowhere)
-      swap_frame = same_entry M version.New origin.Xform (func_in W.xform.funcs transform_function) (func_in P.funcs transform_name) [] Nowhere Nowhere (λ x. refl) transform.merged
+      swap_frame = same_entry M version.New origin.Xform (func_in W.xform.funcs transform_function) (func_in P.funcs transform_name) [] Nowhere Nowhere refl transform.merged
 
       swap_comes : Comes (step P) swap0 entered
       swap_comes = comes_on (step P) swap0 (Live flagged swap1 qs) entered (silently (step P) _ _ (goes_once (step P) _ _ [] set_step)) (silently (step P) _ _ (goes_once (step P) _ _ [] call_step))
 
       swap_related : R M (swapped W g f fs) entered
-      swap_related = (swap_state, swap_frame, inl (refl, there_later M f rest g.now fit, below_later M g.now f.gives f.dest fs q.dest qs sb))
+      swap_related = (swap_state, swap_frame, inl (refl, stands_later M f rest g.now fit, below_later M g.now f.gives f.dest fs q.dest qs sb))
 
     module _ (p : Pos) (k : ℕ) where
       abbrev answered : Bool → Option (Value Bytes)
@@ -147,9 +152,11 @@ module _ (M : Merging) where
 
       same_chose : (b : Bool) → SameFrame M g.now f (record q { locals = with_choice b })
       same_chose b = record {
-        there = sf.there;
+        stands = sf.stands;
         locals = λ y. ap (λ c. if c then answered b else q.locals (ρ f.origin y)) (names.choice_apart f.origin y) ∙ sf.locals y;
         no_flag = sf.no_flag;
+        tail = sf.tail;
+        is_tail = sf.is_tail;
         items = sf.items;
         gives = sf.gives;
       }
@@ -214,14 +221,16 @@ module _ (M : Merging) where
       vs' = map value' vs
 
       padded : (ps : Params M) (n : Bytes) (o : Provenance) (dd : Func) → IsMerged M o dd (func_in P.funcs n) → length (func_in P.funcs n).params ≡ length ps
-          → ((x : Bytes) → is_there g.now (cell_meaning W o x).0 ≡ true) → (e : Dest)
+          → can_stand g.now o ≡ true → (e : Dest)
           → SameFrame M g.now (steps.frame_of NU (o, dd) vs d) (steps.frame_of NP (tt, func_in P.funcs n) (pad M ps vs') e)
-      padded ps n o dd merged len there e =
-          let plain : SameFrame M g.now (steps.frame_of NU (o, dd) vs d) (steps.frame_of NP (tt, func_in P.funcs n) vs' e) = same_entry M g.now o dd (func_in P.funcs n) vs d e there merged in
+      padded ps n o dd merged len stands e =
+          let plain : SameFrame M g.now (steps.frame_of NU (o, dd) vs d) (steps.frame_of NP (tt, func_in P.funcs n) vs' e) = same_entry M g.now o dd (func_in P.funcs n) vs d e stands merged in
           record {
-            there = there;
+            stands = stands;
             locals = λ x. bound-pad M (func_in P.funcs n).params ps vs' (ρ o x) len ∙ plain.locals x;
             no_flag = bound-pad M (func_in P.funcs n).params ps vs' now_name len ∙ plain.no_flag;
+            tail = plain.tail;
+            is_tail = plain.is_tail;
             items = plain.items;
             gives = plain.gives;
           }
@@ -229,9 +238,9 @@ module _ (M : Merging) where
       -- the wrapper calls one version's function, whose frame the updating machine has at once
       hand_follows : (b : Bool) (p : Pos) (ps : Params M) (w : PlainFrame) (n : Bytes) (o : Provenance) (dd : Func) → w.gives ≡ b → w.dest ≡ d' → dd.gives ≡ b
           → AllAre M w.locals ps (pad M ps vs') → IsMerged M o dd (func_in P.funcs n) → length (func_in P.funcs n).params ≡ length ps
-          → ((x : Bytes) → is_there g.now (cell_meaning W o x).0 ≡ true) → w.items ≡ map Does (hand p b n ps)
+          → can_stand g.now o ≡ true → w.items ≡ map Does (hand p b n ps)
           → (e : PlainConfig) × Comes (step P) (Live s w (q ∷ qs)) e × R M (Live g (steps.frame_of NU (o, dd) vs d) (f ∷ fs)) e
-      hand_follows true p ps w n o dd gives dest dgives args merged len there items =
+      hand_follows true p ps w n o dd gives dest dgives args merged len stands items =
           let w2 : PlainFrame = record w { items = Does (hand_on p) ∷ [] } in
           let e : PlainConfig = Live s (steps.frame_of NP (tt, func_in P.funcs n) (pad M ps vs') (Fresh kind.Int result_name)) (w2 ∷ q ∷ qs) in
           let call : step P (Live s w (q ∷ qs)) ≡ Goes [] e =
@@ -240,9 +249,9 @@ module _ (M : Merging) where
           ∙ ap (λ r. steps.with NP r p (λ us. steps.entered NP s w2 (q ∷ qs) n us (Fresh kind.Int result_name))) (read_args M s w2 ps (pad M ps vs') args) in (
             e,
             silently (step P) _ e (goes_once (step P) _ e [] call),
-            (ss, padded ps n o dd merged len there (Fresh kind.Int result_name), inr (subst (λ c. Hands M c (Fresh kind.Int result_name) w2) (sym dgives) (refl, gives, (p, refl)), (dest, sf, sb))),
+            (ss, padded ps n o dd merged len stands (Fresh kind.Int result_name), inr (subst (λ c. Hands M c (Fresh kind.Int result_name) w2) (sym dgives) (refl, gives, (p, refl)), (dest, sf, sb))),
           )
-      hand_follows false p ps w n o dd gives dest dgives args merged len there items =
+      hand_follows false p ps w n o dd gives dest dgives args merged len stands items =
           let w2 : PlainFrame = record w { items = [] } in
           let e : PlainConfig = Live s (steps.frame_of NP (tt, func_in P.funcs n) (pad M ps vs') Nowhere) (w2 ∷ q ∷ qs) in
           let call : step P (Live s w (q ∷ qs)) ≡ Goes [] e =
@@ -251,40 +260,40 @@ module _ (M : Merging) where
           ∙ ap (λ r. steps.with NP r p (λ us. steps.entered NP s w2 (q ∷ qs) n us Nowhere)) (read_args M s w2 ps (pad M ps vs') args) in (
             e,
             silently (step P) _ e (goes_once (step P) _ e [] call),
-            (ss, padded ps n o dd merged len there Nowhere, inr (subst (λ c. Hands M c Nowhere w2) (sym dgives) (refl, gives, refl), (dest, sf, sb))),
+            (ss, padded ps n o dd merged len stands Nowhere, inr (subst (λ c. Hands M c Nowhere w2) (sym dgives) (refl, gives, refl), (dest, sf, sb))),
           )
 
       abbrev entry : Linked → PlainConfig
       entry c = Live s (steps.frame_of NP (tt, func_in P.funcs (κ' c)) vs' d') (q ∷ qs)
 
-      branch : (x : Bytes) (now : Version) (is : IsWrapper M x) → ((y : Bytes) → is_there g.now (cell_meaning W (version_code W now x).0 y).0 ≡ true)
+      branch : (x : Bytes) (now : Version) (is : IsWrapper M x) → can_stand g.now (version_code W now x).0 ≡ true
           → step P (entry (home.Both, x)) ≡ steps.act NP (dropped P) s (record (steps.frame_of NP (tt, func_in P.funcs (κ' (home.Both, x))) vs' d') { items = [] }) (q ∷ qs)
           (stmt.If is.at (is_set now_name) (hand is.at (func_in P.funcs (κ' (home.Both, x))).gives (κ' (home.New, x)) (func_in P.funcs (κ' (home.Both, x))).params) (hand is.at (func_in P.funcs (κ' (home.Both, x))).gives (κ' (home.Old, x)) (func_in P.funcs (κ' (home.Both, x))).params))
           (one.If is.at (is_set now_name) (hand is.at (func_in P.funcs (κ' (home.Both, x))).gives (κ' (home.New, x)) (func_in P.funcs (κ' (home.Both, x))).params) (hand is.at (func_in P.funcs (κ' (home.Both, x))).gives (κ' (home.Old, x)) (func_in P.funcs (κ' (home.Both, x))).params))
           → steps.value_of NP s (record (steps.frame_of NP (tt, func_in P.funcs (κ' (home.Both, x))) vs' d') { items = [] }) (is_set now_name) ≡ joined bytes_eq op.Ne (Ok (flag now)) (Ok (Num (pos 0)))
           → (e : PlainConfig) × Comes (step P) (entry (home.Both, x)) e × R M (Live g (steps.frame_of NU (version_code W now x) vs d) (f ∷ fs)) e
-      branch x version.Old is there begin read =
+      branch x version.Old is stands begin read =
           let fn = func_in P.funcs (κ' (home.Both, x)) in
           let w : PlainFrame = record (steps.frame_of NP (tt, fn) vs' d') { items = map Does (hand is.at fn.gives (κ' (home.Old, x)) fn.params) ++ [] } in
-          let r = hand_follows fn.gives is.at fn.params w (κ' (home.Old, x)) origin.Old (func_in W.first.funcs x) refl refl is.old_gives (all_bound M fn.params vs' is.distinct) is.old is.old_params there (append-nil (map Does (hand is.at fn.gives (κ' (home.Old, x)) fn.params))) in (
+          let r = hand_follows fn.gives is.at fn.params w (κ' (home.Old, x)) origin.Old (func_in W.first.funcs x) refl refl is.old_gives (all_bound M fn.params vs' is.distinct) is.old is.old_params stands (append-nil (map Does (hand is.at fn.gives (κ' (home.Old, x)) fn.params))) in (
             r.0,
             comes_on (step P) (entry (home.Both, x)) (Live s w (q ∷ qs)) r.0
                 (silently (step P) _ _ (goes_once (step P) _ _ [] (if_once s _ (q ∷ qs) (entry (home.Both, x)) (stmt.Skip is.at) is.at _ _ _ (Num (pos 0)) begin read))) r.1,
             r.2,
           )
-      branch x version.New is there begin read =
+      branch x version.New is stands begin read =
           let fn = func_in P.funcs (κ' (home.Both, x)) in
           let w : PlainFrame = record (steps.frame_of NP (tt, fn) vs' d') { items = map Does (hand is.at fn.gives (κ' (home.New, x)) fn.params) ++ [] } in
-          let r = hand_follows fn.gives is.at fn.params w (κ' (home.New, x)) origin.New (func_in W.second.funcs x) refl refl is.new_gives (all_bound M fn.params vs' is.distinct) is.new is.new_params there (append-nil (map Does (hand is.at fn.gives (κ' (home.New, x)) fn.params))) in (
+          let r = hand_follows fn.gives is.at fn.params w (κ' (home.New, x)) origin.New (func_in W.second.funcs x) refl refl is.new_gives (all_bound M fn.params vs' is.distinct) is.new is.new_params stands (append-nil (map Does (hand is.at fn.gives (κ' (home.New, x)) fn.params))) in (
             r.0,
             comes_on (step P) (entry (home.Both, x)) (Live s w (q ∷ qs)) r.0
                 (silently (step P) _ _ (goes_once (step P) _ _ [] (if_once s _ (q ∷ qs) (entry (home.Both, x)) (stmt.Skip is.at) is.at _ _ _ (Num (pos 1)) begin read))) r.1,
             r.2,
           )
 
-      both_follows : (x : Bytes) (now : Version) → g.now ≡ now → IsWrapper M x → ((y : Bytes) → is_there g.now (cell_meaning W (version_code W now x).0 y).0 ≡ true)
+      both_follows : (x : Bytes) (now : Version) → g.now ≡ now → IsWrapper M x → can_stand g.now (version_code W now x).0 ≡ true
           → (e : PlainConfig) × Comes (step P) (entry (home.Both, x)) e × R M (Live g (steps.frame_of NU (version_code W now x) vs d) (f ∷ fs)) e
-      both_follows x now same is there =
+      both_follows x now same is stands =
           let fn = func_in P.funcs (κ' (home.Both, x)) in
           let w0 : PlainFrame = steps.frame_of NP (tt, fn) vs' d' in
           let w1 : PlainFrame = record w0 { items = [] } in
@@ -293,29 +302,29 @@ module _ (M : Merging) where
           ap (λ b. steps.next_item NP (dropped P) s w0 (q ∷ qs) (map Does b)) is.body
           ∙ ap (λ l. steps.act NP (dropped P) s w1 (q ∷ qs) test l) (stmt.outs-If is.at (is_set now_name) (hand is.at fn.gives (κ' (home.New, x)) fn.params) (hand is.at fn.gives (κ' (home.Old, x)) fn.params)) in
           let read = flag_of w1 (no_flag-bound M fn.params vs' is.no_flag) ∙ ap (λ n. joined bytes_eq op.Ne (Ok (flag n)) (Ok (Num (pos 0)))) same in
-          branch x now is there begin read
+          branch x now is stands begin read
 
       leads_comes : (c e h : PlainConfig) → Leads (step P) c [] e → Comes (step P) e h → Leads (step P) c [] h
       leads_comes c e h p r = record { by = λ n a. let y = r.by n a in let x = p.by y.0 a in (x.0, omega (arith, x.1, y.1), x.2 ∙ y.2) }
 
-      directly : (k : Linked) → IsDirect M g.now k → ((y : Bytes) → is_there g.now (cell_meaning W (code_of W g.now k).0 y).0 ≡ true) → (c : PlainConfig) → step P c ≡ Goes [] (entry k)
+      directly : (k : Linked) → IsDirect M g.now k → can_stand g.now (code_of W g.now k).0 ≡ true → (c : PlainConfig) → step P c ≡ Goes [] (entry k)
           → Follows M (Goes [] (Live g (steps.frame_of NU (code_of W g.now k) vs d) (f ∷ fs))) c
-      directly k is there c step_is = (
+      directly k is stands c step_is = (
         entry k,
         goes_once (step P) c (entry k) [] step_is,
-        (ss, same_entry M g.now (code_of W g.now k).0 (code_of W g.now k).1 (func_in P.funcs (κ' k)) vs d d' there is, inl (refl, sf, sb)),
+        (ss, same_entry M g.now (code_of W g.now k).0 (code_of W g.now k).1 (func_in P.funcs (κ' k)) vs d d' stands is, inl (refl, sf, sb)),
       )
 
-      call_follows : (k : Linked) → IsCallable M g.now k → ((y : Bytes) → is_there g.now (cell_meaning W (code_of W g.now k).0 y).0 ≡ true) → (c : PlainConfig) → step P c ≡ Goes [] (entry k)
+      call_follows : (k : Linked) → IsCallable M g.now k → can_stand g.now (code_of W g.now k).0 ≡ true → (c : PlainConfig) → step P c ≡ Goes [] (entry k)
           → Follows M (Goes [] (Live g (steps.frame_of NU (code_of W g.now k) vs d) (f ∷ fs))) c
-      call_follows (home.Both, x) is there c step_is =
-          let r = both_follows x g.now refl is there in
+      call_follows (home.Both, x) is stands c step_is =
+          let r = both_follows x g.now refl is stands in
           (r.0, leads_comes c (entry (home.Both, x)) r.0 (goes_once (step P) c (entry (home.Both, x)) [] step_is) r.1, r.2)
-      call_follows (home.Old, x) is there c step_is = directly (home.Old, x) is there c step_is
-      call_follows (home.New, x) is there c step_is = directly (home.New, x) is there c step_is
-      call_follows (home.Xform, x) is there c step_is = directly (home.Xform, x) is there c step_is
-      call_follows (home.Client, x) is there c step_is = directly (home.Client, x) is there c step_is
-      call_follows (home.Unlinked, x) is there c step_is = directly (home.Unlinked, x) is there c step_is
+      call_follows (home.Old, x) is stands c step_is = directly (home.Old, x) is stands c step_is
+      call_follows (home.New, x) is stands c step_is = directly (home.New, x) is stands c step_is
+      call_follows (home.Xform, x) is stands c step_is = directly (home.Xform, x) is stands c step_is
+      call_follows (home.Client, x) is stands c step_is = directly (home.Client, x) is stands c step_is
+      call_follows (home.Unlinked, x) is stands c step_is = directly (home.Unlinked, x) is stands c step_is
 
     -- ---- each kind of statement
 
@@ -331,7 +340,7 @@ module _ (M : Merging) where
 
     same_elements : (a : Bytes) (at v : Value Linked) → steps.elements_with (NP.elements tt s (ρ f.origin a)) (number (value' at)) (number (value' v)) ≡ steps.elements_with (NU.elements f.origin g a) (number at) (number v)
     same_elements a at v = let k = cell_meaning W f.origin a in
-        ap (λ r. steps.elements_with r (number (value' at)) (number (value' v))) (ss.arrays f.origin a ∙ (settled_there M g.now g k.0 k.1 (sf.there a)).1)
+        ap (λ r. steps.elements_with r (number (value' at)) (number (value' v))) (ss.arrays f.origin a ∙ (settled_there M g.now g k.0 k.1 (cells_there M g.now f.origin sf.stands a)).1)
         ∙ ap₂ (steps.elements_with (NU.elements f.origin g a)) (number-renamed κ' at) (number-renamed κ' v)
 
     comes_after : (c e h : PlainConfig) → Leads (step P) c [] e → Comes (step P) e h → Leads (step P) c [] h
@@ -361,8 +370,9 @@ module _ (M : Merging) where
         → Follows M (steps.with NU (steps.values_of NU g f es) p (λ vs. steps.entered NU g f fs (NU.code f.origin g x) vs d)) c
     called_follows t p d x es c is = by_values M (steps.values_of NU g f es) _ (all_read es) p (λ vs. steps.entered NU g f fs (NU.code f.origin g x) vs d)
         (λ vs. steps.entered NP s q qs (κ f.origin x) vs (renamed_dest (ρ f.origin) d)) c is (λ vs e'.
-        call_follows vs d (function_meaning W f.origin g.now x) (funcs.callable f.origin g.now x sf.there) (funcs.there f.origin g.now x sf.there) c
-        (e' ∙ ap (λ n. steps.entered NP s q qs n (map value' vs) (renamed_dest (ρ f.origin) d)) (names.codes f.origin g.now x)))
+        let may = named_may M funcs g.now f.origin x sf.stands in
+        call_follows vs d (function_meaning W f.origin x) may.0 may.1 c
+        (e' ∙ ap (λ n. steps.entered NP s q qs n (map value' vs) (renamed_dest (ρ f.origin) d)) (names.codes f.origin x)))
 
     -- the merged program tests the flag before the chosen call
     chosen_follows : (c : PlainConfig) (st : Stmt) (l : Stmt-F Stmt) → out-Stmt st ≡ l → step P c ≡ Goes [] (steps.before_rest NP s q qs (Does (m st) ∷ []))
@@ -371,7 +381,7 @@ module _ (M : Merging) where
         let c1 : PlainConfig = steps.before_rest NP s q qs (Does (m st) ∷ []) in
         matches_after (step_updating W) (step P) (R M) _ c c1 (silently (step P) c c1 (goes_once (step P) c c1 [] is))
         (called_follows (m st) p d x es c1
-        (ap (λ l. steps.act NP (dropped P) s q qs (m st) l) (out_merged M f.origin st ∙ ap (λ l. merged_layer W.permits ρ κ f.origin (map-Stmt Stmt Stmt m l)) e)))
+        (ap (λ l. steps.act NP (dropped P) s q qs (m st) l) (out_merged W.permits ρ κ f.origin st ∙ ap (λ l. merged_layer W.permits ρ κ f.origin (map-Stmt Stmt Stmt m l)) e)))
     chosen_follows c st l e is =
         once [] (steps.before_rest NU g f fs (Does st ∷ [])) c (steps.before_rest NP s q qs (Does (m st) ∷ [])) is (same_before (Does st ∷ []) (Does (m st) ∷ []) refl)
 
@@ -392,7 +402,7 @@ module _ (M : Merging) where
     kind_follows t (one.SetElem p a i e) h c is = by_answer M _ _ (reads i) p _ _ c is (λ at e1. by_answer M _ _ (reads e) p _ _ c e1 (λ v e2.
         by_elements M (steps.elements_with (NU.elements f.origin g a) (number at) (number v)) p (λ elements. Goes [] (Live (NU.put_elements f.origin a elements g) f fs)) (λ elements. Goes [] (Live (NP.put_elements tt (ρ f.origin a) elements s) q qs)) c
         (e2 ∙ ap (λ r. steps.with_elements NP r p (λ elements. Goes [] (Live (NP.put_elements tt (ρ f.origin a) elements s) q qs))) (same_elements a at v))
-        (λ elements e3. once [] (Live (NU.put_elements f.origin a elements g) f fs) c (Live (NP.put_elements tt (ρ f.origin a) elements s) q qs) e3 (same_put_elements M g s f.origin a elements (sf.there a) ss, sf, sb))))
+        (λ elements e3. once [] (Live (NU.put_elements f.origin a elements g) f fs) c (Live (NP.put_elements tt (ρ f.origin a) elements s) q qs) e3 (same_put_elements M g s f.origin a elements (cells_there M g.now f.origin sf.stands a) ss, sf, sb))))
     kind_follows t (one.Call p d x es) h c is = called_follows (m t) p d x es c is
     kind_follows t (one.CallBy p d x es) h c is = by_values M (steps.values_of NU g f es) _ (all_read es) p (λ vs. steps.by_pointer NU ((steps.look NU g f).value x) g f fs vs d p)
         (λ vs. steps.by_pointer NP ((steps.look NP s q).value (ρ f.origin x)) s q qs vs (renamed_dest (ρ f.origin) d) p) c is (λ vs e'.
@@ -410,17 +420,19 @@ module _ (M : Merging) where
         (e' ∙ ap (λ n. Goes [] (if is_zero n then Live s q qs else steps.before_rest NP s q qs (map Does (map m a) ++ Mark (m t) ∷ []))) (number-renamed κ' v))
         (same_if M (is_zero (number v)) _ _ _ _ (ss, sf, sb) (same_before (map Does a ++ Mark t ∷ []) _
         (ap (λ x. x ++ Mark (m t) ∷ []) (does_map M f.origin a) ∙ sym (map-append (merged_item W.permits ρ κ f.origin) (map Does a) (Mark t ∷ []))))))
-    kind_follows t (one.Break p) h c is = once [] (Live g (record f { items = after_mark f.items }) fs) c (Live s (record q { items = after_mark q.items }) qs) is (
-      ss,
-      record {
-        there = sf.there;
-        locals = sf.locals;
-        no_flag = sf.no_flag;
-        items = ap after_mark sf.items ∙ after_mark-map M f.origin f.items;
-        gives = sf.gives;
-      },
-      sb,
-    )
+    kind_follows t (one.Break p) h c is =
+        let left = after_mark-map M f.origin f.items sf.tail sf.is_tail in
+        let broken : SameFrame M g.now (record f { items = after_mark f.items }) (record q { items = after_mark q.items }) =
+        record {
+          stands = sf.stands;
+          locals = sf.locals;
+          no_flag = sf.no_flag;
+          tail = left.0;
+          is_tail = left.1;
+          items = ap after_mark sf.items ∙ left.2;
+          gives = sf.gives;
+        } in
+        once [] (Live g (record f { items = after_mark f.items }) fs) c (Live s (record q { items = after_mark q.items }) qs) is (ss, broken, sb)
     kind_follows t (one.Return p None) h c is = handed_follows M g s ss f.gives (Num (pos 0)) f.dest q.dest fs qs c sb (is ∙ left_renamed (Num (pos 0)))
     kind_follows t (one.Return p (Some e)) h c is = by_answer M _ _ (reads e) p _ _ c is (λ v e'. handed_follows M g s ss f.gives v f.dest q.dest fs qs c sb (e' ∙ left_renamed v))
     kind_follows t (one.Assert p e) h c is = by_answer M _ _ (reads e) p _ _ c is (λ v e'.
@@ -439,27 +451,40 @@ module _ (M : Merging) where
   IsReadyFor g f (Does t ∷ is) = IsReady M g f (out-Stmt t)
   IsReadyFor g f (Mark t ∷ is) = IsReady M g f (out-Stmt t)
 
+  -- the frame without its first item
+  abbrev without_first : {now : Version} (f : UpdFrame) (q : PlainFrame) → SameFrame M now f q → List Item → PlainFrame
+  without_first f q sf is = record q { items = map (merged_item W.permits ρ κ f.origin) is ++ sf.tail }
+
+  rest_of : (g : State) (f : UpdFrame) (q : PlainFrame) (sf : SameFrame M g.now f q) (is : List Item) → SameFrame M g.now (record f { items = is }) (without_first f q sf is)
+  rest_of g f q sf is = record {
+    stands = sf.stands;
+    locals = sf.locals;
+    no_flag = sf.no_flag;
+    tail = sf.tail;
+    is_tail = sf.is_tail;
+    items = refl;
+    gives = sf.gives;
+  }
+
   module _ (transform : HasTransform M) (funcs : HasFuncs M) where
     item_follows : (g : State) (s : Store) (f : UpdFrame) (q : PlainFrame) (fs : List UpdFrame) (qs : List PlainFrame)
-        → SameState M g s → SameFrame M g.now f q → Below M g.now f.gives f.dest fs q.dest qs → (is : List Item) → q.items ≡ map (merged_item W.permits ρ κ f.origin) is → IsReadyFor g f is
+        → SameState M g s → (sf : SameFrame M g.now f q) → Below M g.now f.gives f.dest fs q.dest qs
+        → (is : List Item) → q.items ≡ map (merged_item W.permits ρ κ f.origin) is ++ sf.tail → IsReadyFor g f is
         → Follows M (steps.next_item (updating_access W) (update W) g f fs is) (Live s q qs)
     item_follows g s f q fs qs ss sf sb [] e h =
         handed_follows M g s ss f.gives (Num (pos 0)) f.dest q.dest fs qs (Live s q qs) sb
-        (ap (λ l. steps.next_item (plain_access P) (dropped P) s q qs l) e ∙ left_renamed transform funcs g s f q fs qs ss sf sb (Num (pos 0)))
+        (ap (λ l. steps.next_item (plain_access P) (dropped P) s q qs l) e ∙ tail_hands M s q qs sf.tail sf.is_tail
+        ∙ left_renamed transform funcs g s f q fs qs ss sf sb (Num (pos 0)))
     item_follows g s f q fs qs ss sf sb (Does t ∷ is) e h =
-        let f1 : UpdFrame = record f { items = is } in
-        let q1 : PlainFrame = record q { items = map (merged_item W.permits ρ κ f.origin) is } in
-        let sf1 : SameFrame M g.now f1 q1 = record { there = sf.there; locals = sf.locals; no_flag = sf.no_flag; items = refl; gives = sf.gives } in
-        kind_follows transform funcs g s f1 q1 fs qs ss sf1 sb t (out-Stmt t) h (Live s q qs)
+        let r = rest_of g f q sf is in
+        kind_follows transform funcs g s (record f { items = is }) (without_first f q sf is) fs qs ss r sb t (out-Stmt t) h (Live s q qs)
         (ap (λ l. steps.next_item (plain_access P) (dropped P) s q qs l) e
-        ∙ ap (λ l. steps.act (plain_access P) (dropped P) s q1 qs (merged_stmt W.permits ρ κ f.origin t) l) (out_merged M f.origin t))
+        ∙ ap (λ l. steps.act (plain_access P) (dropped P) s (without_first f q sf is) qs (merged_stmt W.permits ρ κ f.origin t) l) (out_merged W.permits ρ κ f.origin t))
     item_follows g s f q fs qs ss sf sb (Mark t ∷ is) e h =
-        let f1 : UpdFrame = record f { items = is } in
-        let q1 : PlainFrame = record q { items = map (merged_item W.permits ρ κ f.origin) is } in
-        let sf1 : SameFrame M g.now f1 q1 = record { there = sf.there; locals = sf.locals; no_flag = sf.no_flag; items = refl; gives = sf.gives } in
-        kind_follows transform funcs g s f1 q1 fs qs ss sf1 sb t (out-Stmt t) h (Live s q qs)
+        let r = rest_of g f q sf is in
+        kind_follows transform funcs g s (record f { items = is }) (without_first f q sf is) fs qs ss r sb t (out-Stmt t) h (Live s q qs)
         (ap (λ l. steps.next_item (plain_access P) (dropped P) s q qs l) e
-        ∙ ap (λ l. steps.act (plain_access P) (dropped P) s q1 qs (merged_stmt W.permits ρ κ f.origin t) l) (out_merged M f.origin t))
+        ∙ ap (λ l. steps.act (plain_access P) (dropped P) s (without_first f q sf is) qs (merged_stmt W.permits ρ κ f.origin t) l) (out_merged W.permits ρ κ f.origin t))
 
     abbrev pub IsReadyAt : UpdConfig → Type 0
     IsReadyAt Over = Unit {0}

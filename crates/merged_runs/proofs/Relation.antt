@@ -1,17 +1,18 @@
 -- How the updating run of a world and the plain run of its merged program correspond.
-use Rattle.std.proofs.Common.{◌≡◌, pos, Bool, true, false, List, [], ◌∷◌, map, None, ◌⊎◌, codes}
+use Rattle.std.proofs.Common.{◌≡◌, pos, Bool, true, false, List, [], ◌∷◌, ◌++◌, map, None, ◌⊎◌, codes}
 use Rattle.std.specs.Option.{option_map}
 use Rattle.std.specs.Str.{bytes_eq}
 use Rattle.c_lang.specs.Names.{Bytes}
 use Rattle.c_lang.specs.Values.{Value, Num}
 use Rattle.plain_run.specs.Moves.{Move}
-use Rattle.plain_run.specs.Steps.{Does, Live, Over}
+use Rattle.plain_run.specs.Steps.{Item, Does, Live, Over}
 use Rattle.plain_run.specs.PlainRun.{Store, PlainFrame, PlainConfig, step}
 use Rattle.version_names.specs.Version.{Version}
 use Rattle.version_names.specs.Version as version
 use Rattle.version_names.specs.Home.{Home, Linked, same_linked}
 use Rattle.version_names.specs.Home as home
 use Rattle.version_names.specs.Provenance.{Provenance}
+use Rattle.version_names.specs.Provenance as origin
 use Rattle.update_semantics.specs.UpdatingRun.{World, State, UpdFrame, UpdConfig, cell_meaning, function_meaning, swapped_state, step_updating}
 use Rattle.plain_run.proofs.Simulation.{Matches}
 use Rattle.c_lang.specs.declared.unit.Pos.{Pos}
@@ -19,9 +20,10 @@ use Rattle.c_lang.specs.declared.stmt.Kind.TheVariants as kind
 use Rattle.c_lang.specs.declared.stmt.Dest.{Dest}
 use Rattle.c_lang.specs.declared.stmt.Dest.TheVariants.{Nowhere, Fresh}
 use Rattle.c_lang.specs.declared.program.Program.{Program}
-use Rattle.merge_core.proofs.Renaming.{renamed_dest}
-use Rattle.merge_core.proofs.MergedStatements.{now_name, choice_name, result_name, hand_on, merged_item}
-use Rattle.merge_core.proofs.EvaluationRenamed.{renamed_value}
+use Rattle.merged_program.specs.Names.{now_name, choice_name, result_name}
+use Rattle.merged_program.specs.Expressions.{renamed_dest}
+use Rattle.merged_runs.proofs.MergedStatements.{hand_on, return_zero, merged_item}
+use Rattle.merged_runs.proofs.EvaluationRenamed.{renamed_value}
 
 -- the function of the transformer that an update runs
 abbrev pub transform_function : Bytes
@@ -37,6 +39,19 @@ is_there version.Old home.Client = true
 is_there version.Old home.Unlinked = true
 is_there version.New h = true
 
+-- Whether a frame of this origin can stand: before the swap only code of the old version runs, as long as no
+-- world has a client.
+abbrev pub can_stand : Version → Provenance → Bool
+can_stand version.Old origin.Old = true
+can_stand version.Old origin.New = false
+can_stand version.Old origin.Xform = false
+can_stand version.Old origin.Client = false
+can_stand version.New o = true
+
+-- what may stand behind a merged body: nothing, or one return of 0
+abbrev pub IsTail : List Item → Type 0
+IsTail tail = (tail ≡ []) ⊎ ((p : Pos) × (tail ≡ Does (return_zero p) ∷ []))
+
 -- the flag of the merged program
 abbrev pub flag : Version → Value Bytes
 flag version.Old = Num (pos 0)
@@ -48,7 +63,7 @@ pub record Naming (W : World) (ρ κ : Provenance → Bytes → Bytes) (κ' : Li
   pub cells : (o : Provenance) (x : Bytes) (q : Provenance) (y : Bytes) → bytes_eq (ρ o x) (ρ q y) ≡ same_linked (cell_meaning W o x) (cell_meaning W q y)
   pub locals : (o : Provenance) (x y : Bytes) → bytes_eq (ρ o x) (ρ o y) ≡ bytes_eq x y
   pub values : (a b : Linked) → bytes_eq (κ' a) (κ' b) ≡ same_linked a b
-  pub codes : (o : Provenance) (now : Version) (f : Bytes) → κ o f ≡ κ' (function_meaning W o now f)
+  pub codes : (o : Provenance) (f : Bytes) → κ o f ≡ κ' (function_meaning W o f)
   pub apart_now : (o : Provenance) (x : Bytes) → bytes_eq (ρ o x) now_name ≡ false
   pub now_apart : (o : Provenance) (x : Bytes) → bytes_eq now_name (ρ o x) ≡ false
   pub choice_apart : (o : Provenance) (x : Bytes) → bytes_eq choice_name (ρ o x) ≡ false
@@ -82,10 +97,12 @@ module _ (M : Merging) where
     pub now : s.values now_name ≡ flag g.now
 
   pub record SameFrame (now : Version) (f : UpdFrame) (q : PlainFrame) : Type 0 where
-    pub there : (x : Bytes) → is_there now (cell_meaning W f.origin x).0 ≡ true
+    pub stands : can_stand now f.origin ≡ true
     pub locals : (x : Bytes) → q.locals (ρ f.origin x) ≡ option_map value' (f.locals x)
     pub no_flag : q.locals now_name ≡ None
-    pub items : q.items ≡ map (merged_item W.permits ρ κ f.origin) f.items
+    pub tail : List Item
+    pub is_tail : IsTail tail
+    pub items : q.items ≡ map (merged_item W.permits ρ κ f.origin) f.items ++ tail
     pub gives : q.gives ≡ f.gives
 
   -- a frame that hands on the result of the one above, which has this destination and may have no result
@@ -93,10 +110,14 @@ module _ (M : Merging) where
   Hands true e w = (e ≡ Fresh kind.Int result_name) × (w.gives ≡ true) × ((p : Pos) × (w.items ≡ Does (hand_on p) ∷ []))
   Hands false e w = (e ≡ Nowhere) × (w.gives ≡ false) × (w.items ≡ [])
 
-  -- the merged `main`
+  -- the merged `main`, which hands on the result, or returns 0 where there is none
+  abbrev pub Ends : Bool → Dest → PlainFrame → Type 0
+  Ends true e w = Hands true e w
+  Ends false e w = (e ≡ Nowhere) × ((p : Pos) × (w.items ≡ Does (return_zero p) ∷ []))
+
   abbrev pub Bottom : Bool → Dest → List PlainFrame → Type 0
   Bottom b e [] = ⊥
-  Bottom b e (w ∷ []) = Hands b e w
+  Bottom b e (w ∷ []) = Ends b e w
   Bottom b e (w ∷ v ∷ more) = ⊥
 
   abbrev pub top_of : List PlainFrame → (PlainFrame → List PlainFrame → Type 0) → Type 0

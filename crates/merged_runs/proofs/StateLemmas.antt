@@ -1,5 +1,5 @@
 -- Reading and writing names keeps the states and the frames related.
-use Rattle.std.proofs.Common.{◌≡◌, ℤ, Bool, true, false, ◌&&◌, if◌then◌else◌, List, [], ◌∷◌, map, Option, Some, None, Result, Ok, Err, refl, sym, ap, ap₂, ◌∙◌}
+use Rattle.std.proofs.Common.{◌≡◌, ℤ, Bool, true, false, ◌&&◌, if◌then◌else◌, List, [], ◌∷◌, map, Option, Some, None, is_some, Result, Ok, Err, refl, sym, ap, ap₂, ◌∙◌}
 use Rattle.std.specs.Option.{option_map}
 use Rattle.std.specs.Str.{bytes_eq}
 use Rattle.c_lang.specs.Names.{Bytes}
@@ -15,6 +15,9 @@ use Rattle.version_names.specs.Version as version
 use Rattle.version_names.specs.Home.{Home, Linked, same_home, same_linked}
 use Rattle.version_names.specs.Home as home
 use Rattle.version_names.specs.Provenance.{Provenance}
+use Rattle.version_names.specs.Provenance as origin
+use Rattle.version_names.specs.Links.{part, is_shared_cell}
+use Rattle.c_lang.specs.Programs.{global_named}
 use Rattle.update_semantics.specs.UpdatingRun.{State, UpdFrame, UpdConfig, put_linked, cell_meaning, updating_access, swapped_state}
 use Rattle.plain_run.proofs.Simulation.{goes_once}
 use Rattle.c_lang.specs.declared.unit.Pos.{Pos}
@@ -25,16 +28,32 @@ use Rattle.c_lang.specs.declared.expr.Expr.{Expr}
 use Rattle.c_lang.specs.declared.stmt.Dest.{Dest}
 use Rattle.c_lang.specs.declared.stmt.Dest.TheVariants.{Nowhere, Into, Fresh}
 use Rattle.c_lang.proofs.TreeLemmas.{expression_of-expr_of}
-use Rattle.merge_core.proofs.Renaming.{under, renamed, renamed_dest}
-use Rattle.merge_core.proofs.MergedStatements.{now_name}
-use Rattle.merge_core.proofs.EvaluationRenamed.{renamed_value, renamed_answer, Carries, ev-renamed}
-use Rattle.merge_core.proofs.Relation.{Merging, is_there, settled_by, settled, SameState, SameFrame, Below, R, Follows}
+use Rattle.merged_program.specs.Names.{now_name}
+use Rattle.merged_program.specs.Expressions.{renamed, renamed_dest}
+use Rattle.merged_runs.proofs.MergedStatements.{under}
+use Rattle.merged_runs.proofs.EvaluationRenamed.{renamed_value, renamed_answer, Carries, ev-renamed}
+use Rattle.merged_runs.proofs.Relation.{Merging, is_there, can_stand, settled_by, settled, SameState, SameFrame, Below, R, Follows}
 
 module _ (M : Merging) where
   open M use {world as W, variable_name as ρ, function_name as κ, value_name as κ', naming as names, program as P}
 
   abbrev value' : Value Linked → Value Bytes
   value' = renamed_value κ'
+
+  -- ---- the cells of frames that can stand
+
+  part_there : (has shared : Bool) → is_there version.Old (part version.Old has shared) ≡ true
+  part_there true true = refl
+  part_there true false = refl
+  part_there false shared = refl
+
+  -- a frame that stands names no cell of the new version alone before the swap
+  pub cells_there : (now : Version) (o : Provenance) → can_stand now o ≡ true → (x : Bytes) → is_there now (cell_meaning W o x).0 ≡ true
+  cells_there version.New o stands x = refl
+  cells_there version.Old origin.Old stands x = part_there (is_some (global_named W.first.globals x)) (is_shared_cell W.first W.second x)
+  cells_there version.Old origin.New stands x = absurd cc
+  cells_there version.Old origin.Xform stands x = absurd cc
+  cells_there version.Old origin.Client stands x = absurd cc
 
   -- ---- reading
 
@@ -59,13 +78,16 @@ module _ (M : Merging) where
     abbrev lookP : Look Bytes
     lookP = steps.look (plain_access P) s q
 
+    there : (x : Bytes) → is_there g.now (cell_meaning W f.origin x).0 ≡ true
+    there = cells_there g.now f.origin sf.stands
+
     pub carries : Carries κ' (ρ f.origin) (κ f.origin) lookU lookP
     carries = record {
       value = λ x. let c = cell_meaning W f.origin x in
-          ap₂ local_or (sf.locals x) (ss.values f.origin x ∙ ap value' (settled_there g.now g c.0 c.1 (sf.there x)).0)
+          ap₂ local_or (sf.locals x) (ss.values f.origin x ∙ ap value' (settled_there g.now g c.0 c.1 (there x)).0)
           ∙ local_or-renamed (f.locals x) (g.values c.0 c.1);
-      elements = λ x. let c = cell_meaning W f.origin x in ss.arrays f.origin x ∙ (settled_there g.now g c.0 c.1 (sf.there x)).1;
-      code = λ x. names.codes f.origin g.now x;
+      elements = λ x. let c = cell_meaning W f.origin x in ss.arrays f.origin x ∙ (settled_there g.now g c.0 c.1 (there x)).1;
+      code = λ x. names.codes f.origin x;
     }
 
     pub value_of-renamed : (e : Expr) → steps.value_of (plain_access P) s q (under (ρ f.origin) (κ f.origin) e) ≡ renamed_answer κ' (steps.value_of (updating_access W) g f e)
@@ -134,16 +156,18 @@ module _ (M : Merging) where
 
     same_local : (x : Bytes) (v : Value Linked) → SameFrame M g.now (record f { locals = updated f.locals x (Some v) }) (record q { locals = updated q.locals (ρ o x) (Some (value' v)) })
     same_local x v = record {
-      there = sf.there;
+      stands = sf.stands;
       locals = λ y. ap₂ (λ b z. if b then Some (value' v) else z) (names.locals o x y) (sf.locals y) ∙ pick_local (bytes_eq x y) v (f.locals y);
       no_flag = ap (λ b. if b then Some (value' v) else q.locals now_name) (names.apart_now o x) ∙ sf.no_flag;
+      tail = sf.tail;
+      is_tail = sf.is_tail;
       items = sf.items;
       gives = sf.gives;
     }
 
     same_into : (x : Bytes) (v : Value Linked) (a : Option (Value Linked)) (b : Option (Value Bytes)) → b ≡ option_map value' a
         → R M (steps.into (updating_access W) a g f fs x v) (steps.into (plain_access P) b s q qs (ρ o x) (value' v))
-    same_into x v None None e = (same_put g s o x v (sf.there x) ss, sf, sb)
+    same_into x v None None e = (same_put g s o x v (cells_there g.now o sf.stands x) ss, sf, sb)
     same_into x v None (Some b) e = absurd cc
     same_into x v (Some a) None e = absurd cc
     same_into x v (Some a) (Some b) e = (ss, same_local x v, sb)

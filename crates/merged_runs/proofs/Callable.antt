@@ -33,10 +33,10 @@ use Rattle.c_lang.specs.declared.stmt.Dest.TheVariants.{Nowhere, Into, Fresh}
 use Rattle.c_lang.specs.declared.stmt.Stmt.{Stmt, out-Stmt}
 use Rattle.c_lang.specs.declared.stmt.Stmt.TheOpen.{Stmt-F}
 use Rattle.c_lang.specs.declared.stmt.Stmt.TheOpen as one
-use Rattle.merge_core.proofs.Relation.{Merging, is_there, R, transform_function}
-use Rattle.merge_core.proofs.FrameLemmas.{HasTransform}
-use Rattle.merge_core.proofs.CallLemmas.{HasFuncs, MayCall, IsReady}
-use Rattle.merge_core.proofs.StatementLemmas.{IsReadyFor, matched}
+use Rattle.merged_runs.proofs.Relation.{Merging, can_stand, R, transform_function}
+use Rattle.merged_runs.proofs.FrameLemmas.{HasTransform}
+use Rattle.merged_runs.proofs.CallLemmas.{HasFuncs, MayCall, named_may, IsReady}
+use Rattle.merged_runs.proofs.StatementLemmas.{IsReadyFor, matched}
 
 module _ (M : Merging) where
   open M use {world as W, program as P}
@@ -119,19 +119,19 @@ module _ (M : Merging) where
   later : (v : Value Linked) → May version.Old v → May version.New v
   later (Num z) h = tt
   later Null h = tt
-  later (Code (home.Both, x)) h = (h.0, λ y. refl)
-  later (Code (home.Old, x)) h = (h.0, λ y. refl)
-  later (Code (home.New, x)) h = (h.0, λ y. refl)
-  later (Code (home.Xform, x)) h = (h.0, λ y. refl)
-  later (Code (home.Client, x)) h = (h.0, λ y. refl)
-  later (Code (home.Unlinked, x)) h = (h.0, λ y. refl)
+  later (Code (home.Both, x)) h = (h.0, refl)
+  later (Code (home.Old, x)) h = (h.0, refl)
+  later (Code (home.New, x)) h = (h.0, refl)
+  later (Code (home.Xform, x)) h = (h.0, refl)
+  later (Code (home.Client, x)) h = (h.0, refl)
+  later (Code (home.Unlinked, x)) h = (h.0, refl)
 
   abbrev pub GoodLocal : Version → Option (Value Linked) → Type 0
   GoodLocal now None = Unit {0}
   GoodLocal now (Some v) = May now v
 
   pub record GoodFrame (now : Version) (f : UpdFrame) : Type 0 where
-    pub there : (x : Bytes) → is_there now (cell_meaning W f.origin x).0 ≡ true
+    pub stands : can_stand now f.origin ≡ true
     pub locals : (x : Bytes) → GoodLocal now (f.locals x)
 
   abbrev pub GoodState : State → Type 0
@@ -148,7 +148,7 @@ module _ (M : Merging) where
   module _ (funcs : HasFuncs M) where
     good_value : (g : State) (f : UpdFrame) → GoodState g → GoodFrame g.now f → (e : Expr) → GoodAnswer g.now (steps.value_of (updating_access W) g f e)
     good_value g f s h e = good_ev g.now (steps.look (updating_access W) g f) (good_look g f s h)
-        (λ x. (funcs.callable f.origin g.now x h.there, funcs.there f.origin g.now x h.there)) (expression_of e)
+        (λ x. named_may M funcs g.now f.origin x h.stands) (expression_of e)
 
     chosen_may : (now : Version) (b : Bool) (v w : Value Linked) → May now v → May now w → May now (if b then v else w)
     chosen_may now true v w h k = h
@@ -175,7 +175,7 @@ module _ (M : Merging) where
     good_local now false v o h k = k
 
     with_local : (now : Version) (f : UpdFrame) (x : Bytes) (v : Value Linked) → GoodFrame now f → May now v → GoodFrame now (record f { locals = updated f.locals x (Some v) })
-    with_local now f x v h k = record { there = h.there; locals = λ y. good_local now (bytes_eq x y) v (f.locals y) k (h.locals y) }
+    with_local now f x v h k = record { stands = h.stands; locals = λ y. good_local now (bytes_eq x y) v (f.locals y) k (h.locals y) }
 
     good_into : (o : Option (Value Linked)) (g : State) (f : UpdFrame) (fs : List UpdFrame) (x : Bytes) (v : Value Linked) → GoodState g → GoodFrame g.now f → GoodFrames g.now fs → May g.now v
         → Good (steps.into (updating_access W) o g f fs x v)
@@ -198,7 +198,7 @@ module _ (M : Merging) where
     AllMay now [] = Unit {0}
     AllMay now (v ∷ vs) = May now v × AllMay now vs
 
-    good_bound : (now : Version) (ps : List (Kind × Bytes)) (vs : List (Value Linked)) → AllMay now vs → (x : Bytes) → GoodLocal now (steps.bound ps vs x)
+    pub good_bound : (now : Version) (ps : List (Kind × Bytes)) (vs : List (Value Linked)) → AllMay now vs → (x : Bytes) → GoodLocal now (steps.bound ps vs x)
     good_bound now [] vs h x = tt
     good_bound now (p ∷ ps) [] h x = good_local now (bytes_eq p.1 x) (Num (pos 0)) (steps.bound ps [] x) tt (good_bound now ps [] tt x)
     good_bound now (p ∷ ps) (v ∷ vs) h x = good_local now (bytes_eq p.1 x) v (steps.bound ps vs x) h.0 (good_bound now ps vs h.1 x)
@@ -226,7 +226,7 @@ module _ (M : Merging) where
 
     good_entered : (g : State) (f : UpdFrame) (fs : List UpdFrame) (k : Linked) (vs : List (Value Linked)) (d : Dest) → GoodState g → GoodFrame g.now f → GoodFrames g.now fs → May g.now (Code k) → AllMay g.now vs
         → HoldsU (steps.entered (updating_access W) g f fs k vs d)
-    good_entered g f fs k vs d s h r m a = (s, record { there = m.1; locals = good_bound g.now (code_of W g.now k).1.params vs a }, (h, r))
+    good_entered g f fs k vs d s h r m a = (s, record { stands = m.1; locals = good_bound g.now (code_of W g.now k).1.params vs a }, (h, r))
 
     good_pointer : (v : Value Linked) (g : State) (f : UpdFrame) (fs : List UpdFrame) (vs : List (Value Linked)) (d : Dest) (p : Pos) → May g.now v → GoodState g → GoodFrame g.now f → GoodFrames g.now fs → AllMay g.now vs
         → HoldsU (steps.by_pointer (updating_access W) v g f fs vs d p)
@@ -245,13 +245,13 @@ module _ (M : Merging) where
     widen_local now (Some v) h = widen now v h
 
     widen_frame : (now : Version) (f : UpdFrame) → GoodFrame now f → GoodFrame version.New f
-    widen_frame now f h = record { there = λ x. refl; locals = λ x. widen_local now (f.locals x) (h.locals x) }
+    widen_frame now f h = record { stands = refl; locals = λ x. widen_local now (f.locals x) (h.locals x) }
 
     widen_frames : (now : Version) (fs : List UpdFrame) → GoodFrames now fs → GoodFrames version.New fs
     widen_frames now [] h = tt
     widen_frames now (f ∷ fs) h = (widen_frame now f h.0, widen_frames now fs h.1)
 
-    module _ (initial : (x : Bytes) → May version.New (initial_value (function_meaning W origin.New version.New) (global_named W.second.globals x))) where
+    module _ (initial : (x : Bytes) → May version.New (initial_value (function_meaning W origin.New) (global_named W.second.globals x))) where
       good_swapped_state : (g : State) → GoodState g → GoodState (swapped_state W g)
       good_swapped_state g s home.New x = initial x
       good_swapped_state g s home.Both x = widen g.now (g.values home.Both x) (s home.Both x)
@@ -263,7 +263,7 @@ module _ (M : Merging) where
       good_swapped : (g : State) (f : UpdFrame) (fs : List UpdFrame) → GoodState g → GoodFrame g.now f → GoodFrames g.now fs → Good (swapped W g f fs)
       good_swapped g f fs s h r = (
         good_swapped_state g s,
-        record { there = λ x. refl; locals = good_bound version.New (code_of W version.New (home.Xform, transform_function)).1.params [] tt },
+        record { stands = refl; locals = good_bound version.New (code_of W version.New (home.Xform, transform_function)).1.params [] tt },
         (widen_frame g.now f h, widen_frames g.now fs r),
       )
 
@@ -284,11 +284,11 @@ module _ (M : Merging) where
         NU = updating_access W
 
         same_look : (new : List Item) → GoodFrame g.now (record f { items = new })
-        same_look new = record { there = h.there; locals = h.locals }
+        same_look new = record { stands = h.stands; locals = h.locals }
 
         good_called : (p : Pos) (d : Dest) (x : Bytes) (es : List Expr) → HoldsU (steps.with NU (steps.values_of NU g f es) p (λ vs. steps.entered NU g f fs (NU.code f.origin g x) vs d))
         good_called p d x es = good_withs g.now (steps.values_of NU g f es) p (λ vs. steps.entered NU g f fs (NU.code f.origin g x) vs d) (good_values g f s h es) (λ vs a.
-            good_entered g f fs (NU.code f.origin g x) vs d s h r (funcs.callable f.origin g.now x h.there, funcs.there f.origin g.now x h.there) a)
+            good_entered g f fs (NU.code f.origin g x) vs d s h r (named_may M funcs g.now f.origin x h.stands) a)
 
         good_picked : (st : Stmt) (l : Stmt-F Stmt) → HoldsU (picked W g f fs st l)
         good_picked st (one.Call p d x es) = good_called p d x es
@@ -300,7 +300,7 @@ module _ (M : Merging) where
         good_kind t (one.SetElem p a i e) =
             good_with g.now (steps.value_of NU g f i) p (λ at. steps.with NU (steps.value_of NU g f e) p (λ v. steps.with_elements NU (steps.elements_with (NU.elements f.origin g a) (number at) (number v)) p (λ elements. Goes [] (Live (NU.put_elements f.origin a elements g) f fs)))) (good_value g f s h i) (λ at m.
             good_with g.now (steps.value_of NU g f e) p (λ v. steps.with_elements NU (steps.elements_with (NU.elements f.origin g a) (number at) (number v)) p (λ elements. Goes [] (Live (NU.put_elements f.origin a elements g) f fs))) (good_value g f s h e) (λ v m.
-            good_elements (steps.elements_with (NU.elements f.origin g a) (number at) (number v)) p (λ elements. Goes [] (Live (NU.put_elements f.origin a elements g) f fs)) (λ elements. (s, record { there = h.there; locals = h.locals }, r))))
+            good_elements (steps.elements_with (NU.elements f.origin g a) (number at) (number v)) p (λ elements. Goes [] (Live (NU.put_elements f.origin a elements g) f fs)) (λ elements. (s, record { stands = h.stands; locals = h.locals }, r))))
         good_kind t (one.Call p d x es) = good_called p d x es
         good_kind t (one.CallBy p d x es) = good_withs g.now (steps.values_of NU g f es) p (λ vs. steps.by_pointer NU ((steps.look NU g f).value x) g f fs vs d p) (good_values g f s h es) (λ vs a.
             good_pointer ((steps.look NU g f).value x) g f fs vs d p (good_look g f s h x) s h r a)
@@ -324,8 +324,8 @@ module _ (M : Merging) where
       good_items : (g : State) (f : UpdFrame) (fs : List UpdFrame) → GoodState g → GoodFrame g.now f → GoodFrames g.now fs → (is : List Item)
           → HoldsU (steps.next_item (updating_access W) (update W) g f fs is)
       good_items g f fs s h r [] = good_handed g f.gives f.dest (Num (pos 0)) fs s r tt
-      good_items g f fs s h r (Does t ∷ is) = good_kind g (record f { items = is }) fs s (record { there = h.there; locals = h.locals }) r t (out-Stmt t)
-      good_items g f fs s h r (Mark t ∷ is) = good_kind g (record f { items = is }) fs s (record { there = h.there; locals = h.locals }) r t (out-Stmt t)
+      good_items g f fs s h r (Does t ∷ is) = good_kind g (record f { items = is }) fs s (record { stands = h.stands; locals = h.locals }) r t (out-Stmt t)
+      good_items g f fs s h r (Mark t ∷ is) = good_kind g (record f { items = is }) fs s (record { stands = h.stands; locals = h.locals }) r t (out-Stmt t)
 
       kept : (c : UpdConfig) → Good c → HoldsU (step_updating W c)
       kept Over i = tt

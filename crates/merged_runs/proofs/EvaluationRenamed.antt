@@ -9,7 +9,7 @@ use Rattle.c_lang.specs.declared.expr.Expr.TheVariants as expr
 use Rattle.c_lang.specs.declared.expr.Op.{Op}
 use Rattle.c_lang.specs.declared.expr.Op.TheVariants as op
 use Rattle.c_lang.proofs.TreeLemmas.{expression_of-Lit, expression_of-Var, expression_of-Bin}
-use Rattle.merge_core.proofs.Renaming.{renamed}
+use Rattle.merged_program.specs.Expressions.{renamed}
 
 module _ {F G : Type 0} (m : F → G) where
   abbrev pub renamed_value : Value F → Value G

@@ -1,5 +1,5 @@
 -- The names of a merged program are apart from each other.
-use Rattle.std.proofs.Common.{◌≡◌, ℕ, Bool, true, false, not, ◌&&◌, if◌then◌else◌, ◌==◌, nat_eq, [], ◌∷◌, ◌++◌, length, take, drop, Some, None, is_some, refl, sym, ap, ap₂, ◌∙◌, codes}
+use Rattle.std.proofs.Common.{◌≡◌, ℕ, Bool, true, false, not, ◌&&◌, if◌then◌else◌, ◌==◌, nat_eq, [], ◌∷◌, ◌++◌, length, take, drop, Some, None, refl, sym, ap, ap₂, ◌∙◌, codes}
 use Rattle.std.specs.List.{starts_with}
 use Rattle.std.specs.Str.{bytes_eq}
 use Rattle.std.proofs.lemmas.Slice.Eq.{bytes_eq-Decides}
@@ -11,39 +11,10 @@ use Rattle.version_names.specs.Home.{Home, Linked, same_home, same_linked}
 use Rattle.version_names.specs.Home as home
 use Rattle.version_names.specs.Provenance.{Provenance}
 use Rattle.version_names.specs.Provenance as origin
-use Rattle.version_names.specs.Links.{cell_part, code_part}
-use Rattle.c_lang.specs.Programs.{func_named}
-use Rattle.update_semantics.specs.UpdatingRun.{World, old_or_new, linked_by_prefix, client_funcs, cell_meaning, function_meaning}
-use Rattle.merge_core.proofs.MergedStatements.{now_name, choice_name}
-use Rattle.merge_core.proofs.Relation.{Naming}
-
--- ---- the names
-
--- a name that no source has, and that isn't one of the parser's temporaries `dsu_tN`
-abbrev pub is_foreign : Bytes → Bool
-is_foreign x = is_reserved x && not (starts_with nat_eq x (codes "dsu_t"))
-
--- a name that is linked nowhere stays as it is; a foreign one gets a further `dsu_`, so that it can't
--- be a merged name
-abbrev pub kept : Bytes → Bytes
-kept x = if is_foreign x then codes "dsu_" ++ x else x
-
-abbrev pub cell_name : Linked → Bytes
-cell_name (home.Both, x) = codes "dsu_both_" ++ x
-cell_name (home.Old, x) = codes "dsu_old_" ++ x
-cell_name (home.New, x) = codes "dsu_new_" ++ x
-cell_name (home.Xform, x) = codes "dsu_xform_" ++ x
-cell_name (home.Client, x) = codes "dsu_client_" ++ x
-cell_name (home.Unlinked, x) = kept x
-
--- a shared function is called through its wrapper
-abbrev pub code_name : Linked → Bytes
-code_name (home.Both, f) = codes "dsu_any_" ++ f
-code_name (home.Old, f) = codes "dsu_old_" ++ f
-code_name (home.New, f) = codes "dsu_new_" ++ f
-code_name (home.Xform, f) = codes "dsu_xform_" ++ f
-code_name (home.Client, f) = codes "dsu_client_" ++ f
-code_name (home.Unlinked, f) = kept f
+use Rattle.version_names.specs.Links.{cell_part}
+use Rattle.update_semantics.specs.UpdatingRun.{World, old_or_new, linked_by_prefix, cell_meaning}
+use Rattle.merged_program.specs.Names.{now_name, choice_name, is_foreign, kept_name, cell_name, code_name, variable_name, function_name}
+use Rattle.merged_runs.proofs.Relation.{Naming}
 
 -- ---- tests of names
 
@@ -51,7 +22,7 @@ pub to_false : (b : Bool) → (b ≡ true → ⊥) → b ≡ false
 to_false true h = absurd (h refl)
 to_false false h = refl
 
-same_names : (x y : Bytes) → bytes_eq x y ≡ true → x ≡ y
+pub same_names : (x y : Bytes) → bytes_eq x y ≡ true → x ≡ y
 same_names x y h = (bytes_eq-Decides x y).0 h
 
 pub bytes_eq-refl : (x : Bytes) → bytes_eq x x ≡ true
@@ -75,10 +46,10 @@ behind_prefix x prefix h =
 abbrev pub own : ℕ → Bytes → Bytes
 own c z = codes "dsu_" ++ c ∷ z
 
-kept-foreign : (x : Bytes) → is_foreign x ≡ true → kept x ≡ codes "dsu_" ++ x
+kept-foreign : (x : Bytes) → is_foreign x ≡ true → kept_name x ≡ codes "dsu_" ++ x
 kept-foreign x h = ap (λ b. if b then codes "dsu_" ++ x else x) h
 
-kept-free : (x : Bytes) → is_foreign x ≡ false → kept x ≡ x
+kept-free : (x : Bytes) → is_foreign x ≡ false → kept_name x ≡ x
 kept-free x h = ap (λ b. if b then codes "dsu_" ++ x else x) h
 
 foreign-reserved : (a b : Bool) → a && b ≡ true → a ≡ true
@@ -104,42 +75,42 @@ pub true_false : true ≡ false → ⊥
 true_false e = absurd cc
 
 -- such a name is apart from every kept one, where the byte isn't `d` either
-pub own-kept : (c : ℕ) (z x : Bytes) → (116 == c) ≡ false → (c == 100) ≡ false → bytes_eq (own c z) (kept x) ≡ false
+pub own-kept : (c : ℕ) (z x : Bytes) → (116 == c) ≡ false → (c == 100) ≡ false → bytes_eq (own c z) (kept_name x) ≡ false
 own-kept c z x not_t not_d = by_bool (is_foreign x)
     (λ h. ap (bytes_eq (own c z)) (kept-foreign x h ∙ ap (λ (y : Bytes). codes "dsu_" ++ y) (sym (foreign-is x h)))
     ∙ ap (λ b. b && bytes_eq z (codes "su_" ++ foreign_rest x)) not_d)
-    (λ h. to_false (bytes_eq (own c z) (kept x)) (λ e.
-    let same : own c z ≡ x = same_names (own c z) (kept x) e ∙ kept-free x h in
+    (λ h. to_false (bytes_eq (own c z) (kept_name x)) (λ e.
+    let same : own c z ≡ x = same_names (own c z) (kept_name x) e ∙ kept-free x h in
     true_false (sym (own-foreign c z not_t) ∙ ap is_foreign same ∙ h)))
 
-pub kept-own : (c : ℕ) (z x : Bytes) → (116 == c) ≡ false → (c == 100) ≡ false → bytes_eq (kept x) (own c z) ≡ false
-kept-own c z x not_t not_d = bytes_eq-sym (kept x) (own c z) ∙ own-kept c z x not_t not_d
+pub kept-own : (c : ℕ) (z x : Bytes) → (116 == c) ≡ false → (c == 100) ≡ false → bytes_eq (kept_name x) (own c z) ≡ false
+kept-own c z x not_t not_d = bytes_eq-sym (kept_name x) (own c z) ∙ own-kept c z x not_t not_d
 
 -- a foreign name with a further `dsu_` is foreign
 twice-foreign : (x : Bytes) → is_foreign x ≡ true → is_foreign (codes "dsu_" ++ x) ≡ true
 twice-foreign x h = ap (λ (y : Bytes). is_foreign (codes "dsu_" ++ y)) (sym (foreign-is x h))
 
-kept-mixed : (x y : Bytes) → is_foreign x ≡ true → is_foreign y ≡ false → bytes_eq (kept x) (kept y) ≡ bytes_eq x y
+kept-mixed : (x y : Bytes) → is_foreign x ≡ true → is_foreign y ≡ false → bytes_eq (kept_name x) (kept_name y) ≡ bytes_eq x y
 kept-mixed x y h k =
-    to_false (bytes_eq (kept x) (kept y)) (λ e.
-    let same : codes "dsu_" ++ x ≡ y = sym (kept-foreign x h) ∙ same_names (kept x) (kept y) e ∙ kept-free y k in
+    to_false (bytes_eq (kept_name x) (kept_name y)) (λ e.
+    let same : codes "dsu_" ++ x ≡ y = sym (kept-foreign x h) ∙ same_names (kept_name x) (kept_name y) e ∙ kept-free y k in
     true_false (sym (twice-foreign x h) ∙ ap is_foreign same ∙ k))
     ∙ sym (to_false (bytes_eq x y) (λ e. true_false (sym h ∙ ap is_foreign (same_names x y e) ∙ k)))
 
-kept-kept : (x y : Bytes) → bytes_eq (kept x) (kept y) ≡ bytes_eq x y
+kept-kept : (x y : Bytes) → bytes_eq (kept_name x) (kept_name y) ≡ bytes_eq x y
 kept-kept x y = by_bool (is_foreign x)
     (λ h. by_bool (is_foreign y)
     (λ k. ap₂ bytes_eq (kept-foreign x h) (kept-foreign y k))
     (λ k. kept-mixed x y h k))
     (λ h. by_bool (is_foreign y)
-    (λ k. bytes_eq-sym (kept x) (kept y) ∙ kept-mixed y x k h ∙ bytes_eq-sym y x)
+    (λ k. bytes_eq-sym (kept_name x) (kept_name y) ∙ kept-mixed y x k h ∙ bytes_eq-sym y x)
     (λ k. ap₂ bytes_eq (kept-free x h) (kept-free y k)))
 
 -- a name that isn't reserved is apart from a kept one where it is apart from the name
-pub free-kept : (n x : Bytes) → is_reserved n ≡ false → bytes_eq n x ≡ false → bytes_eq n (kept x) ≡ false
+pub free-kept : (n x : Bytes) → is_reserved n ≡ false → bytes_eq n x ≡ false → bytes_eq n (kept_name x) ≡ false
 free-kept n x free apart = by_bool (is_foreign x)
-    (λ h. to_false (bytes_eq n (kept x)) (λ e.
-    let same : n ≡ codes "dsu_" ++ x = same_names n (kept x) e ∙ kept-foreign x h in
+    (λ h. to_false (bytes_eq n (kept_name x)) (λ e.
+    let same : n ≡ codes "dsu_" ++ x = same_names n (kept_name x) e ∙ kept-foreign x h in
     true_false (sym (ap is_reserved same) ∙ free)))
     (λ h. ap (bytes_eq n) (kept-free x h) ∙ apart)
 
@@ -183,7 +154,7 @@ same_codes (home.Unlinked, x) (home.Xform, y) = kept-own 120 (codes "form_" ++ y
 same_codes (home.Unlinked, x) (home.Client, y) = kept-own 99 (codes "lient_" ++ y) x refl refl
 same_codes (h, x) (k, y) = refl
 
-cell_apart-now : (k : Linked) → bytes_eq (cell_name k) now_name ≡ false
+pub cell_apart-now : (k : Linked) → bytes_eq (cell_name k) now_name ≡ false
 cell_apart-now (home.Both, x) = refl
 cell_apart-now (home.Old, x) = refl
 cell_apart-now (home.New, x) = refl
@@ -228,7 +199,7 @@ written-linked part x = by_bool (same_home (part version.Old x) home.Both)
     (λ h. ap (λ b. written (if b then (home.Both, x) else old_or_new part x (behind (codes "dsu_old_") x) (behind (codes "dsu_new_") x))) h
     ∙ written-old_or_new part x h)
 
-same_home-refl : (h : Home) → same_home h h ≡ true
+pub same_home-refl : (h : Home) → same_home h h ≡ true
 same_home-refl home.Both = refl
 same_home-refl home.Old = refl
 same_home-refl home.New = refl
@@ -246,7 +217,7 @@ by_own_name home_of x y = by_bool (bytes_eq x y)
     never true = refl
     never false = refl
 
-same_home-is : (h k : Home) → same_home h k ≡ true → h ≡ k
+pub same_home-is : (h k : Home) → same_home h k ≡ true → h ≡ k
 same_home-is home.Both home.Both e = refl
 same_home-is home.Old home.Old e = refl
 same_home-is home.New home.New e = refl
@@ -255,7 +226,7 @@ same_home-is home.Client home.Client e = refl
 same_home-is home.Unlinked home.Unlinked e = refl
 same_home-is h k e = absurd cc
 
-both_true : (a b : Bool) → a && b ≡ true → (a ≡ true) × (b ≡ true)
+pub both_true : (a b : Bool) → a && b ≡ true → (a ≡ true) × (b ≡ true)
 both_true true b e = (refl, e)
 both_true false b e = absurd cc
 
@@ -276,35 +247,21 @@ by_written part x y = by_bool (bytes_eq x y)
     sym (written-linked part x) ∙ ap written (same_linked-is (linked_by_prefix part x) (linked_by_prefix part y) e) ∙ written-linked part y in
     true_false (sym ((bytes_eq-Decides x y).1 same) ∙ h)) ∙ sym h)
 
--- ---- a world in which no function is one version's alone
+-- ---- the names in a world
 
-module _ (W : World) (alike : (f : Bytes) → code_part W.first W.second version.Old f ≡ code_part W.first W.second version.New f) where
-  abbrev pub variable_name : Provenance → Bytes → Bytes
-  variable_name o x = cell_name (cell_meaning W o x)
-
-  abbrev pub function_name : Provenance → Bytes → Bytes
-  function_name o f = code_name (function_meaning W o version.Old f)
-
+module _ (W : World) where
   same_meaning : (o : Provenance) (x y : Bytes) → same_linked (cell_meaning W o x) (cell_meaning W o y) ≡ bytes_eq x y
   same_meaning origin.Old x y = by_own_name (λ z. (cell_meaning W origin.Old z).0) x y
   same_meaning origin.New x y = by_own_name (λ z. (cell_meaning W origin.New z).0) x y
   same_meaning origin.Xform x y = by_written (cell_part W.first W.second) x y
   same_meaning origin.Client x y = refl
 
-  same_function : (o : Provenance) (now : Version) (f : Bytes) → function_meaning W o version.Old f ≡ function_meaning W o now f
-  same_function o version.Old f = refl
-  same_function origin.Old version.New f = refl
-  same_function origin.New version.New f = refl
-  same_function origin.Xform version.New f = refl
-  same_function origin.Client version.New f =
-      ap (λ (h : Home). if is_some (func_named (client_funcs W) f) then (home.Client, f) else (h, f)) (alike f)
-
-  pub merged_naming : Naming W variable_name function_name code_name
+  pub merged_naming : Naming W (variable_name W) (function_name W) code_name
   merged_naming = record {
     cells = λ o x q y. same_cells (cell_meaning W o x) (cell_meaning W q y);
     locals = λ o x y. same_cells (cell_meaning W o x) (cell_meaning W o y) ∙ same_meaning o x y;
     values = same_codes;
-    codes = λ o now f. ap code_name (same_function o now f);
+    codes = λ o f. refl;
     apart_now = λ o x. cell_apart-now (cell_meaning W o x);
     now_apart = λ o x. bytes_eq-sym now_name (cell_name (cell_meaning W o x)) ∙ cell_apart-now (cell_meaning W o x);
     choice_apart = λ o x. choice_apart-cell (cell_meaning W o x);

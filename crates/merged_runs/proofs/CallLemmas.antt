@@ -1,29 +1,32 @@
 -- The functions of the merged program: those of one part, and the wrappers of shared ones.
-use Rattle.std.proofs.Common.{◌≡◌, pos, true, false, if◌then◌else◌, List, [], ◌∷◌, map, Option, Some, None, Ok, refl, sym, ap, ap₂, ◌∙◌, length, arith}
+use Rattle.std.proofs.Common.{◌≡◌, pos, Bool, true, false, is_some, if◌then◌else◌, List, [], ◌∷◌, map, Option, Some, None, Ok, refl, sym, ap, ap₂, ◌∙◌, length, arith}
 use Rattle.std.specs.Str.{bytes_eq}
 use Rattle.std.proofs.lemmas.Slice.Eq.{bytes_eq-Decides}
 use Rattle.c_lang.specs.Names.{Bytes}
 use Rattle.c_lang.specs.Values.{Value, Num, Code, Null}
 use Rattle.plain_run.specs.Steps as steps
 use Rattle.plain_run.specs.Steps.{updated, local_or, Locals}
-use Rattle.c_lang.specs.Programs.{func_in}
+use Rattle.c_lang.specs.Programs.{func_named, func_in}
 use Rattle.plain_run.specs.PlainRun.{Store, PlainFrame, plain_access}
+use Rattle.version_names.specs.Links.{part, is_shared_code}
 use Rattle.version_names.specs.Version.{Version}
+use Rattle.version_names.specs.Version as version
 use Rattle.version_names.specs.Home.{Home, Linked}
 use Rattle.version_names.specs.Home as home
 use Rattle.version_names.specs.Provenance.{Provenance}
 use Rattle.version_names.specs.Provenance as origin
-use Rattle.update_semantics.specs.UpdatingRun.{State, UpdFrame, cell_meaning, function_meaning, code_of, updating_access}
+use Rattle.update_semantics.specs.UpdatingRun.{State, UpdFrame, function_meaning, code_of, updating_access}
 use Rattle.c_lang.specs.declared.unit.Pos.{Pos}
 use Rattle.c_lang.specs.declared.expr.Expr.TheVariants.{Var}
 use Rattle.c_lang.specs.declared.stmt.Kind.{Kind}
 use Rattle.c_lang.specs.declared.stmt.Stmt.{Stmt}
 use Rattle.c_lang.specs.declared.stmt.Stmt.TheOpen.{Stmt-F}
 use Rattle.c_lang.specs.declared.stmt.Stmt.TheOpen as one
-use Rattle.merge_core.proofs.MergedStatements.{now_name, wrapper_body}
-use Rattle.merge_core.proofs.EvaluationRenamed.{renamed_value, ev-Var}
-use Rattle.merge_core.proofs.Relation.{Merging, is_there}
-use Rattle.merge_core.proofs.FrameLemmas.{IsMerged}
+use Rattle.merged_program.specs.Names.{now_name}
+use Rattle.merged_runs.proofs.MergedStatements.{wrapper_body}
+use Rattle.merged_runs.proofs.EvaluationRenamed.{renamed_value, ev-Var}
+use Rattle.merged_runs.proofs.Relation.{Merging, can_stand}
+use Rattle.merged_runs.proofs.FrameLemmas.{IsMerged}
 
 module _ (M : Merging) where
   open M use {world as W, value_name as κ', program as P}
@@ -117,17 +120,32 @@ module _ (M : Merging) where
       (ev-Var bytes_eq (steps.look (plain_access P) s w) p.1 ∙ ap (λ o. Ok (local_or o (s.values p.1))) h.0)
       (read_args s w ps us h.1)
 
-  -- every function that a frame may name, and that its body's cells are there
+  -- every function that a frame may name
   pub record HasFuncs : Type 0 where
-    pub callable : (o : Provenance) (now : Version) (h : Bytes) → ((x : Bytes) → is_there now (cell_meaning W o x).0 ≡ true) → IsCallable now (function_meaning W o now h)
-    pub there : (o : Provenance) (now : Version) (h : Bytes) → ((x : Bytes) → is_there now (cell_meaning W o x).0 ≡ true)
-        → (y : Bytes) → is_there now (cell_meaning W (code_of W now (function_meaning W o now h)).0 y).0 ≡ true
+    pub callable : (o : Provenance) (now : Version) (f : Bytes) → IsCallable now (function_meaning W o f)
+
+  part_stands : (has shared : Bool) (f : Bytes) → can_stand version.Old (code_of W version.Old (part version.Old has shared, f)).0 ≡ true
+  part_stands true true f = refl
+  part_stands true false f = refl
+  part_stands false shared f = refl
+
+  -- what a frame that stands calls can stand
+  pub called_stands : (now : Version) (o : Provenance) (f : Bytes) → can_stand now o ≡ true → can_stand now (code_of W now (function_meaning W o f)).0 ≡ true
+  called_stands version.New o f stands = refl
+  called_stands version.Old origin.Old f stands = part_stands (is_some (func_named W.first.funcs f)) (is_shared_code W.first W.second f) f
+  called_stands version.Old origin.New f stands = absurd cc
+  called_stands version.Old origin.Xform f stands = absurd cc
+  called_stands version.Old origin.Client f stands = absurd cc
 
   -- a value that a call through a pointer may meet now
   abbrev pub MayCall : Version → Value Linked → Type 0
   MayCall now (Num z) = Unit {0}
   MayCall now Null = Unit {0}
-  MayCall now (Code k) = IsCallable now k × ((y : Bytes) → is_there now (cell_meaning W (code_of W now k).0 y).0 ≡ true)
+  MayCall now (Code k) = IsCallable now k × (can_stand now (code_of W now k).0 ≡ true)
+
+  -- so is each function that a frame that stands names
+  pub named_may : (funcs : HasFuncs) (now : Version) (o : Provenance) (f : Bytes) → can_stand now o ≡ true → MayCall now (Code (function_meaning W o f))
+  named_may funcs now o f stands = (funcs.callable o now f, called_stands now o f stands)
 
   -- what the next statement needs
   abbrev pub IsReady : State → UpdFrame → Stmt-F Stmt → Type 0

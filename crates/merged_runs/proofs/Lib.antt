@@ -1,0 +1,17 @@
+pub mod MergedStatements
+pub mod EvaluationRenamed
+pub mod Relation
+pub mod MergedNames
+pub mod StateLemmas
+pub mod FrameLemmas
+pub mod CallLemmas
+pub mod StatementLemmas
+pub mod Callable
+pub mod Lookups
+pub mod Meanings
+pub mod FunctionTable
+pub mod Wrappers
+pub mod StartState
+pub mod Theorem
+pub mod TypedMain
+pub mod WorldTheorem
