@@ -60,7 +60,7 @@ first u z (Err (fail.Refused given)) within h why is =
     let same = err_is given why (sym h ∙ reads_refused u z why within is) in
     λ other. ap (λ (w : Refusal). fail.Refused w) same
 
-may_be_written : (u : Unit) (size : ℕ) → size ≤ size_limit u → MayBeWritten u size
+pub may_be_written : (u : Unit) (size : ℕ) → size ≤ size_limit u → MayBeWritten u size
 may_be_written Old size h = h
 may_be_written New size h = h
 may_be_written Xform size h = h

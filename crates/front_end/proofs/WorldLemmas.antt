@@ -14,6 +14,7 @@ use Rattle.c_grammar.specs.Lexed as lexed
 use Rattle.c_grammar.specs.Parsed as parsed
 use Rattle.c_grammar.specs.Written.{Parses, IsWritten}
 use Rattle.c_lexer.proofs.LexLaws.{one_list, not_both}
+use Rattle.c_lexer.proofs.LexLaws.{may_be_written}
 use Rattle.c_parser.proofs.WrittenLaws.{one_of_text, is_written}
 use Rattle.c_types.specs.Kept.{TypedProgram, IsChecked, IsKept}
 use Rattle.c_types.specs.Types.{Types}
@@ -74,8 +75,8 @@ module _ (u : Unit) (text : Bytes) where
   one_typed p q a b =
       a.resolved ∙ ap resolved_program (one_of_text u (height_limit u) (height_limit u) text a.source b.source a.is_program.parses b.is_program.parses) ∙ sym b.resolved
 
-  pub written : (source : Program) → Parses u (height_limit u) text source → IsWritten u source
-  written source is = is_written u (height_limit u) text source (omega arith) is
+  pub written : (source : Program) → length text ≤ size_limit u → Parses u (height_limit u) text source → IsWritten u source
+  written source small is = is_written u (height_limit u) text source (omega arith) (may_be_written u (length text) small) is
 
 module _ (listed : Option (List ℕ)) (ts : Texts) where
   pub points_refused : (rest : List Condition) (first : Program) (f : Fail) → IsTypedText Old ts.old first → IsListed (all_points first None) listed (Err f)

@@ -1,5 +1,5 @@
-pub mod Code
 pub mod Names
 pub mod Expressions
 pub mod Statements
 pub mod Programs
+pub mod Code

@@ -1,18 +1,26 @@
 -- What the code builds: expressions, statements and lists of them in a world of the code.
-use Rattle.std.specs.Prelude.{Bool, true, false, List, map, Option, Some, None}
+use Rattle.std.specs.Borrow.{Bor}
+use Rattle.std.specs.Prelude.{Bool, if◌then◌else◌, List, [], ◌∷◌, ◌++◌, map, Option, Some, None}
 use Rattle.std.specs.Option.{option_map}
 use Rattle.c_lang.specs.Names.{Bytes}
-use Rattle.c_lang.specs.Trees.{expression_of, expr_of, statement_of, stmt_of, stmts_of}
+use Rattle.c_lang.specs.Programs.{no_func}
+use Rattle.c_lang.specs.Trees.{Statement, expression_of, expr_of, statement_of, stmt_of, stmts_of}
 use Rattle.c_lang.specs.declared.expr.Expr.{Expr}
+use Rattle.c_lang.specs.declared.unit.Pos.{Pos}
+use Rattle.c_lang.specs.declared.stmt.Kind.{Kind}
 use Rattle.c_lang.specs.declared.stmt.Dest.{Dest}
 use Rattle.c_lang.specs.declared.stmt.Stmt.{Stmt}
+use Rattle.c_lang.specs.declared.program.Func.{Func}
 use Rattle.c_types.specs.Bodies.{body_of}
+use Rattle.version_names.specs.Merged.{merged_name}
 use Rattle.version_names.specs.Provenance.{Provenance}
-use Rattle.update_semantics.specs.UpdatingRun as run
+use Rattle.version_names.specs.declared.part.Origin.{Origin}
+use Rattle.version_names.specs.declared.part.Origin.TheVariants as prefix
 use Rattle.update_semantics.specs.Worlds.{World, world_of}
 use Rattle.merged_program.specs.Names.{variable_name, function_name}
 use Rattle.merged_program.specs.Expressions.{renamed_dest, renamed}
-use Rattle.merged_program.specs.Statements.{merged_statement, merged_statements}
+use Rattle.merged_program.specs.Statements.{hand, wrapping, return_zero, merged_statement, merged_statements}
+use Rattle.merged_program.specs.Programs.{merged_param}
 
 module _ (w : World) (o : Provenance) where
   abbrev pub variable : Bytes → Bytes
@@ -30,8 +38,27 @@ module _ (w : World) (o : Provenance) where
   abbrev pub dest : Dest → Dest
   dest d = renamed_dest variable d
 
+  abbrev pub mirrored : Statement → Stmt
+  mirrored s = stmt_of (merged_statement (world_of w).permits (variable_name (world_of w)) (function_name (world_of w)) o s)
+
   abbrev pub statement : Stmt → Stmt
-  statement s = stmt_of (merged_statement (world_of w).permits (variable_name (world_of w)) (function_name (world_of w)) o (statement_of s))
+  statement s = mirrored (statement_of s)
 
   abbrev pub statements : List Stmt → List Stmt
   statements ss = stmts_of (merged_statements (world_of w).permits (variable_name (world_of w)) (function_name (world_of w)) o (body_of ss))
+
+  -- a function of code of this origin with a body that is merged
+  abbrev pub with_body : Origin → Func → List Stmt → Func
+  with_body prefix f body =
+      record { name = merged_name prefix f.name; params = map (merged_param (world_of w) o) f.params; gives = f.gives; body = body; pos = f.pos }
+
+abbrev pub wrapper_body : Func → List (Kind × Bytes) → List Stmt
+wrapper_body f params = stmt_of (wrapping f.pos f.gives (merged_name prefix.New f.name) (merged_name prefix.Old f.name) params) ∷ []
+
+-- where the function stands, and whether it gives a value
+abbrev pub head_of : Option (Bor Func) → Pos × Bool
+head_of None = (no_func.pos, no_func.gives)
+head_of (Some f) = (f.now.pos, f.now.gives)
+
+abbrev pub starting_body : Pos → Bool → Bytes → List Stmt
+starting_body p gives name = stmts_of (hand p gives name []) ++ (if gives then [] else stmt_of (return_zero p) ∷ [])

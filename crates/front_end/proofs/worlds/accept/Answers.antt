@@ -16,12 +16,12 @@ returns-in_err-programs c =
 pub check_versions-requires-clause-old : goal.check_versions-requires-clause-old
 check_versions-requires-clause-old c =
     let ts = texts c.args.old.now c.args.new.now c.args.xform.now in
-    written Old c.args.old.now _ (c.in_ok-programs.ensures ts c.in_ok-tokens.ensures).versions.old
+    written Old c.args.old.now _ c.in_default.ensures.0 (c.in_ok-programs.ensures ts c.in_ok-tokens.ensures).versions.old
 
 pub check_versions-requires-clause-new : goal.check_versions-requires-clause-new
 check_versions-requires-clause-new c =
     let ts = texts c.args.old.now c.args.new.now c.args.xform.now in
-    written New c.args.new.now _ (c.in_ok-programs.ensures ts c.in_ok-tokens.ensures).versions.new
+    written New c.args.new.now _ c.in_default.ensures.1.0 (c.in_ok-programs.ensures ts c.in_ok-tokens.ensures).versions.new
 
 pub returns-in_err-versions : goal.returns-in_err-versions
 returns-in_err-versions c =
@@ -55,7 +55,7 @@ make_world-requires-clause-new c =
 pub make_world-requires-clause-written : goal.make_world-requires-clause-written
 make_world-requires-clause-written c =
     let ts = texts c.args.old.now c.args.new.now c.args.xform.now in
-    written Xform c.args.xform.now _ (c.in_ok-programs.ensures ts c.in_ok-tokens.ensures).xform
+    written Xform c.args.xform.now _ c.in_default.ensures.1.1.0 (c.in_ok-programs.ensures ts c.in_ok-tokens.ensures).xform
 
 pub returns : goal.returns
 returns c =

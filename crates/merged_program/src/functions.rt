@@ -1,0 +1,273 @@
+//! The functions of a merged program. The only error of each function is want of memory.
+
+ghost use Rattle.std.specs.Prelude.{◌≡◌, ◌++◌, ◌&&◌, map, None, IfOk, OnOk};
+ghost use Rattle.std.specs.List.{filter};
+ghost use Rattle.c_types.specs.Bodies.{body_of};
+ghost use Rattle.c_types.specs.Endings as endings;
+ghost use Rattle.c_types.specs.Functions as types;
+ghost use Rattle.update_semantics.specs.Linked.{provenance_of};
+ghost use Rattle.update_semantics.specs.Worlds.{world_of};
+ghost use Rattle.merged_program.specs.Code.Built as built;
+ghost use Rattle.merged_program.specs.Programs as spec;
+
+use crate::expansions::{hand, return_zero, wrapping};
+use crate::globals::is_shared;
+use crate::names::{parameter, variable};
+use crate::statements::body;
+use c_lang::{Func, Kind, Name, Pos, Stmt, Unit};
+use c_types::endings::can_end;
+use c_types::functions::is_main;
+use sqlite_items::Items;
+use std::alloc::{AllocError, Global};
+use update_semantics::{Meanings, Provenance};
+use version_names::{Origin, Sort2, Version, merged_name};
+
+fn params(
+    alloc: Global,
+    meanings: &Meanings<'_>,
+    origin: Provenance,
+    params: &[(Kind, Name)],
+) -> Result<Items<(Kind, Name)>, AllocError>
+    ensures { IfOk result (λ all. all ≡ map (spec.merged_param (world_of meanings.now) (provenance_of origin)) params.now) }
+{
+    let mut all = Items::new(alloc);
+    for param in params {
+        all.push((param.0, variable(alloc, meanings, origin, &param.1)?))?;
+    }
+    Ok(all)
+}
+
+// A function of code of this origin, with its merged body.
+fn with_body(
+    alloc: Global,
+    meanings: &Meanings<'_>,
+    origin: Provenance,
+    prefix: Origin,
+    f: &Func,
+    body: Items<Stmt>,
+) -> Result<Func, AllocError>
+    ensures { IfOk result (λ merged. merged ≡ built.with_body meanings.now (provenance_of origin) prefix f.now body) }
+{
+    let name = merged_name(alloc, prefix, &f.name)?;
+    let params = params(alloc, meanings, origin, f.params.as_slice())?;
+    Ok(Func {
+        name,
+        params,
+        gives: f.gives,
+        body,
+        pos: f.pos,
+    })
+}
+
+// Whether the function is a `main` whose end can be reached.
+fn ends_open(f: &Func) -> bool
+    ensures { result ≡ (types.is_main f.now.name && endings.can_end (body_of f.now.body)) }
+{
+    is_main(&f.name) && can_end(f.body.as_slice())
+}
+
+// A version's body, where a `main` that can end gives 0.
+fn closed_body(
+    alloc: Global,
+    meanings: &Meanings<'_>,
+    origin: Provenance,
+    f: &Func,
+) -> Result<Items<Stmt>, AllocError>
+    ensures { IfOk result (λ all. all ≡ built.statements meanings.now (provenance_of origin) f.now.body ++ spec.ending f.now) }
+{
+    let mut all = body(alloc, meanings, origin, f.body.as_slice())?;
+    if ends_open(f) {
+        all.push(return_zero(f.pos))?;
+    }
+    Ok(all)
+}
+
+fn old_func(alloc: Global, meanings: &Meanings<'_>, f: &Func) -> Result<Func, AllocError>
+    ensures { IfOk result (λ merged. merged ≡ spec.old_func (world_of meanings.now) f.now) }
+{
+    let body = closed_body(alloc, meanings, Provenance::Old, f)?;
+    with_body(alloc, meanings, Provenance::Old, Origin::Old, f, body)
+}
+
+fn new_func(alloc: Global, meanings: &Meanings<'_>, f: &Func) -> Result<Func, AllocError>
+    ensures { IfOk result (λ merged. merged ≡ spec.new_func (world_of meanings.now) f.now) }
+{
+    let body = closed_body(alloc, meanings, Provenance::New, f)?;
+    with_body(alloc, meanings, Provenance::New, Origin::New, f, body)
+}
+
+fn xform_func(alloc: Global, meanings: &Meanings<'_>, f: &Func) -> Result<Func, AllocError>
+    ensures { IfOk result (λ merged. merged ≡ spec.xform_func (world_of meanings.now) f.now) }
+{
+    let body = body(alloc, meanings, Provenance::Xform, f.body.as_slice())?;
+    with_body(alloc, meanings, Provenance::Xform, Origin::Xform, f, body)
+}
+
+// ---- wrappers
+
+fn parameters(alloc: Global, params: &[(Kind, Name)]) -> Result<Items<(Kind, Name)>, AllocError>
+    ensures { IfOk result (λ all. all ≡ spec.parameters_from 1 (types.kinds_of params.now)) }
+{
+    let mut all = Items::new(alloc);
+    for (index, param) in params.iter().enumerate() {
+        all.push((param.0, parameter(alloc, index + 1)?))?;
+    }
+    Ok(all)
+}
+
+// What a wrapper does.
+fn wrapper_body(
+    alloc: Global,
+    f: &Func,
+    params: &[(Kind, Name)],
+) -> Result<Items<Stmt>, AllocError>
+    ensures { IfOk result (λ all. all ≡ built.wrapper_body f.now params.now) }
+{
+    let new = merged_name(alloc, Origin::New, &f.name)?;
+    let old = merged_name(alloc, Origin::Old, &f.name)?;
+    let mut all = Items::new(alloc);
+    all.push(wrapping(alloc, f.pos, f.gives, &new, &old, params)?)?;
+    Ok(all)
+}
+
+// Calls the current version's function.
+fn wrapper(alloc: Global, f: &Func) -> Result<Func, AllocError>
+    ensures { IfOk result (λ merged. merged ≡ spec.wrapper f.now) }
+{
+    let params = parameters(alloc, f.params.as_slice())?;
+    let body = wrapper_body(alloc, f, params.as_slice())?;
+    let name = merged_name(alloc, Origin::Any, &f.name)?;
+    Ok(Func {
+        name,
+        params,
+        gives: f.gives,
+        body,
+        pos: f.pos,
+    })
+}
+
+// ---- `main`
+
+// Where a function stands, and whether it gives a value.
+fn head_of(f: Option<&Func>) -> (Pos, bool)
+    ensures { result ≡ built.head_of f.entry }
+{
+    match f {
+        Some(f) => (f.pos, f.gives),
+        None => (
+            Pos {
+                unit: Unit::Merge,
+                line: 1,
+            },
+            false,
+        ),
+    }
+}
+
+// The body of `main`: a call of this function.
+fn starting_body(
+    alloc: Global,
+    pos: Pos,
+    gives: bool,
+    callee: &Name,
+) -> Result<Items<Stmt>, AllocError>
+    ensures { IfOk result (λ all. all ≡ built.starting_body pos gives callee.now) }
+{
+    let mut all = hand(alloc, pos, gives, callee, &[])?;
+    if !gives {
+        all.push(return_zero(pos))?;
+    }
+    Ok(all)
+}
+
+fn main_func(alloc: Global, meanings: &Meanings<'_>) -> Result<Func, AllocError>
+    ensures { IfOk result (λ merged. merged ≡ spec.merged_main (world_of meanings.now) None) }
+{
+    let (pos, gives) = head_of(meanings.version_code(Version::Old, b"main").func);
+    let callee = Name::new(alloc, b"dsu_old_main")?;
+    let body = starting_body(alloc, pos, gives, &callee)?;
+    let name = Name::new(alloc, b"main")?;
+    Ok(Func {
+        name,
+        params: Items::new(alloc),
+        gives: true,
+        body,
+        pos,
+    })
+}
+
+// ---- all of them
+
+fn add_old(
+    alloc: Global,
+    meanings: &Meanings<'_>,
+    all: &mut Items<Func>,
+    funcs: &[Func],
+) -> Result<(), AllocError>
+    ensures { OnOk result (all.new ≡ all.old ++ map (spec.old_func (world_of meanings.now)) funcs.now) }
+{
+    for f in funcs {
+        all.push(old_func(alloc, meanings, f)?)?;
+    }
+    Ok(())
+}
+
+fn add_new(
+    alloc: Global,
+    meanings: &Meanings<'_>,
+    all: &mut Items<Func>,
+    funcs: &[Func],
+) -> Result<(), AllocError>
+    ensures { OnOk result (all.new ≡ all.old ++ map (spec.new_func (world_of meanings.now)) funcs.now) }
+{
+    for f in funcs {
+        all.push(new_func(alloc, meanings, f)?)?;
+    }
+    Ok(())
+}
+
+fn add_wrappers(
+    alloc: Global,
+    meanings: &Meanings<'_>,
+    all: &mut Items<Func>,
+    funcs: &[Func],
+) -> Result<(), AllocError>
+    ensures { OnOk result (all.new ≡ all.old ++ map spec.wrapper (filter (spec.is_wrapped (world_of meanings.now)) funcs.now)) }
+{
+    for f in funcs {
+        if is_shared(meanings.part(Version::Old, Sort2::Code, &f.name)) {
+            all.push(wrapper(alloc, f)?)?;
+        }
+    }
+    Ok(())
+}
+
+fn add_xform(
+    alloc: Global,
+    meanings: &Meanings<'_>,
+    all: &mut Items<Func>,
+    funcs: &[Func],
+) -> Result<(), AllocError>
+    ensures { OnOk result (all.new ≡ all.old ++ map (spec.xform_func (world_of meanings.now)) funcs.now) }
+{
+    for f in funcs {
+        all.push(xform_func(alloc, meanings, f)?)?;
+    }
+    Ok(())
+}
+
+/// The functions of both versions, the wrappers, the transformer's functions, and `main`.
+pub fn funcs(alloc: Global, meanings: &Meanings<'_>) -> Result<Items<Func>, AllocError>
+    ensures { IfOk result (λ all. all ≡ spec.merged_funcs (world_of meanings.now)) }
+{
+    let old = meanings.program(Version::Old).funcs.as_slice();
+    let new = meanings.program(Version::New).funcs.as_slice();
+    let xform = meanings.world().xform().program().funcs.as_slice();
+    let mut all = Items::new(alloc);
+    add_old(alloc, meanings, &mut all, old)?;
+    add_new(alloc, meanings, &mut all, new)?;
+    add_wrappers(alloc, meanings, &mut all, old)?;
+    add_xform(alloc, meanings, &mut all, xform)?;
+    all.push(main_func(alloc, meanings)?)?;
+    Ok(all)
+}
