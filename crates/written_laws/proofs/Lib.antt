@@ -8,4 +8,8 @@ mod TypedLocals
 mod WrittenLaws
 mod NameLaws
 mod PlainWalks
+mod GivenPositions
+mod StatementPositions
+pub mod WrittenPositions
+pub mod PlainPositions
 mod KeptLaws
