@@ -52,7 +52,7 @@ mutual
   same_statements none = refl
   same_statements (more s ss) = ap₂ max (same_statement s) (same_statements ss)
 
-same_funcs : (fs : List Func) → funcs_height (map built_func (map plain_func fs)) ≡ funcs_height fs
+pub same_funcs : (fs : List Func) → funcs_height (map built_func (map plain_func fs)) ≡ funcs_height fs
 same_funcs [] = refl
 same_funcs (f ∷ fs) = ap₂ max (ap statements_height (statements_back (plain_statements (body_of f))) ∙ same_statements (body_of f)) (same_funcs fs)
 

@@ -9,7 +9,7 @@ mod WrittenLaws
 mod NameLaws
 mod PlainWalks
 mod GivenPositions
-mod StatementPositions
+pub mod StatementPositions
 pub mod WrittenPositions
 pub mod PlainPositions
 mod KeptLaws

@@ -31,7 +31,7 @@ HavePositions ss = StatementsHavePositions (statements (map statement_of ss))
 one_has : (s : Stmt) (t : Statement) → statement_of s ≡ t → StatementHasPositions t → HavePositions (s ∷ [])
 one_has s t is h = (subst StatementHasPositions (sym is) h, tt)
 
-both_have : (xs ys : List Stmt) → HavePositions xs → HavePositions ys → HavePositions (xs ++ ys)
+pub both_have : (xs ys : List Stmt) → HavePositions xs → HavePositions ys → HavePositions (xs ++ ys)
 both_have [] ys h k = k
 both_have (x ∷ xs) ys h k = (h.0, both_have xs ys h.1 k)
 
