@@ -1,13 +1,12 @@
 -- The functions of a merged program can be printed.
-use Rattle.std.specs.Prelude.{⊤, ◌≡◌, ◌+◌, ◌&&◌, ℕ, pos, Bool, true, false, cond, List, [], ◌∷◌, ◌++◌, map, All, Option, Some, None, codes}
+use Rattle.std.specs.Prelude.{◌≡◌, ◌+◌, ◌&&◌, ℕ, Bool, true, false, cond, List, [], ◌∷◌, ◌++◌, map, All, Option, Some, None, codes}
 use Rattle.std.proofs.Common.{refl, sym, ap, subst, arith, inl, inr}
 use Rattle.std.specs.List.{Contains, filter}
 use Rattle.std.proofs.lemmas.List.Elements.{All-nil, All-cons, All-head, All-tail, All-append, All-map, All-filter, All-weaker}
 use Rattle.c_lang.specs.Names.{Bytes}
 use Rattle.c_lang.specs.Programs.{func_in}
-use Rattle.c_lang.specs.Trees.{Expression, variable, literal, Statement, Statements, if_else, return_with, none, more, statement_of, stmt_of, stmts_of}
+use Rattle.c_lang.specs.Trees.{variable, Statement, Statements, statement_of, stmt_of, stmts_of}
 use Rattle.c_lang.specs.declared.stmt.Kind.{Kind}
-use Rattle.c_lang.specs.declared.stmt.Kind.TheVariants.{Int, Fp}
 use Rattle.c_lang.specs.declared.stmt.Stmt.{Stmt}
 use Rattle.c_lang.specs.declared.unit.Unit.{Unit}
 use Rattle.c_lang.specs.declared.unit.Pos.{Pos}
@@ -19,7 +18,6 @@ use Rattle.c_types.specs.Endings.{can_end}
 use Rattle.c_types.specs.Functions.{kinds_of, is_main, body_scope}
 use Rattle.c_types.specs.Names.{Entries}
 use Rattle.c_types.specs.Plain.{plain_expression, plain_statement, plain_statements, plain_func, built_func, PlainFunc}
-use Rattle.c_types.specs.Programs.{with_func}
 use Rattle.c_types.specs.Statements.{block_in, entered}
 use Rattle.c_types.specs.Types.{AreNarrow, IsTypedFunc}
 use Rattle.version_names.specs.Merged.{merged_name}
@@ -27,11 +25,11 @@ use Rattle.version_names.specs.Provenance.{Provenance}
 use Rattle.version_names.specs.Provenance as origin
 use Rattle.version_names.specs.declared.part.Origin.TheVariants as prefix
 use Rattle.update_semantics.specs.UpdatingRun.{World, Specification, client_funcs}
-use Rattle.merged_program.specs.Names.{now_name, result_name, variable_name, function_name}
+use Rattle.merged_program.specs.Names.{now_name, variable_name, function_name}
 use Rattle.merged_program.specs.Statements.{hand, wrapping, return_zero, merged_statements}
 use Rattle.merged_program.specs.Programs.{parameters_from, wrapper, starting, declared, ending, merged_param, merged_body, merged_func, old_func, new_func, xform_func, client_func, is_wrapped, merged_main, merged_funcs}
 use Rattle.merge_printer.proofs.DeclarationLaw.{ProtoFits, FuncReads, start_scope}
-use Rattle.merge_printer.proofs.Fitting.{KindFits, StatementsFit, StatementFits, KeepsAll, Keeps, scope_behind, scope_behind_all}
+use Rattle.merge_printer.proofs.Fitting.{StatementsFit, StatementFits, KeepsAll, Keeps, scope_behind}
 use Rattle.merge_printer.proofs.HeadLaw.{ParamsFit, KindsFit}
 use Rattle.merge_printer.proofs.PlainLaw.{statement_back, statements_back}
 use Rattle.merge_printer.proofs.ReadScopes.{declared_before, declared_now}
@@ -46,7 +44,7 @@ use Rattle.written_laws.proofs.TypedLocals.{one_of}
 use Rattle.written_laws.proofs.Walks.{both_all}
 use Rattle.merged_texts.proofs.NameFits.{InWord, name_in_word, source_word, parameter_fits, now_fits, result_fits, main_fits, merged_fits, variable_fits, function_fits}
 use Rattle.merged_texts.proofs.SourceStatements.{IsGood, good_plain, IsPlacedWell, placed, is_good, kind_fits}
-use Rattle.merged_texts.proofs.StatementFits.{tested, small, Covers, all_read}
+use Rattle.merged_texts.proofs.StatementFits.{tested, small, all_read}
 
 -- ---- functions of sources
 

@@ -1,8 +1,7 @@
 -- The statements of a merged program can be printed, and are read back without temporaries.
-use Rattle.std.specs.Prelude.{⊤, ◌⊎◌, ◌≡◌, ◌≤◌, ◌<◌, ◌&&◌, ℕ, pos, zero, suc, Bool, true, false, cond, List, [], ◌∷◌, ◌++◌, map, Option, Some, None, codes}
-use Rattle.std.proofs.Common.{refl, sym, ap, subst, ◌∙◌, inl, inr, arith}
+use Rattle.std.specs.Prelude.{◌≡◌, ◌≤◌, ◌&&◌, ℕ, pos, Bool, true, false, List, [], ◌∷◌, map, Option, Some, None, codes}
+use Rattle.std.proofs.Common.{refl, subst, inl, inr, arith}
 use Rattle.std.specs.List.{Contains}
-use Rattle.std.specs.Option.{option_map}
 use Rattle.c_lang.specs.Names.{Bytes}
 use Rattle.c_lang.specs.Trees.{Expression, literal, variable, element, function, null, negation, logical_not, binary, Statement, Statements, skip, set, set_element, call, call_by, if_else, while_loop, break_loop, return_with, assert_that, input, output, point, choice, force, pick, none, more}
 use Rattle.c_lang.specs.declared.unit.Pos.{Pos}
@@ -14,7 +13,7 @@ use Rattle.version_names.specs.Provenance.{Provenance, may_update}
 use Rattle.version_names.specs.declared.part.Origin.TheVariants as prefix
 use Rattle.merged_program.specs.Expressions.{renamed_dest, renamed}
 use Rattle.merged_program.specs.Names.{now_name, choice_name}
-use Rattle.merged_program.specs.Statements.{with_zero, swap, answered, question, asking, forcing, merged_statement, merged_statements}
+use Rattle.merged_program.specs.Statements.{swap, answered, asking, forcing, merged_statement, merged_statements}
 use Rattle.merge_printer.proofs.ExpressionLaw.{IsLiteral, ExpressionFits}
 use Rattle.merge_printer.proofs.SideLaw.{ExpressionsFit}
 use Rattle.merge_printer.proofs.Fitting.{DestFits, TargetFits, StatementFits, StatementsFit, GoesAtOnce, declared_by, scope_behind, scope_behind_all, Keeps, KeepsAll}
@@ -23,7 +22,7 @@ use Rattle.merge_printer.proofs.Words.{IsName}
 use Rattle.written_laws.specs.Walk.{Context, with_dest, told, told_all, in_loop, past, past_all, Throughout, ThroughoutAll}
 use Rattle.written_laws.proofs.TypedLocals.{one_of}
 use Rattle.merged_texts.proofs.NameFits.{now_fits, choice_fits, merged_fits}
-use Rattle.merged_texts.proofs.SourceStatements.{IsSound, AreSound, ReturnsSound, IsHere, ResultFits, IsGood}
+use Rattle.merged_texts.proofs.SourceStatements.{IsSound, AreSound, ReturnsSound, IsHere, IsGood}
 
 -- ---- what no source has
 

@@ -64,16 +64,16 @@ module _ (first second kept : Program) (h : IsTransformerOf first second kept) w
   xform_low : funcs_height kept.funcs ≤ 64
   xform_low = subst (λ (P : Program). funcs_height P.funcs ≤ 64) (sym h.resolved) (part_low Xform tt (resolved_transformer (part_of first second) first second h.source) h.source same_xform h.written)
 
-  xform_at : ProgramHasPositions kept
+  pub xform_at : ProgramHasPositions kept
   xform_at = subst ProgramHasPositions (sym h.resolved) (part_at Xform tt (resolved_transformer (part_of first second) first second h.source) h.source same_xform h.written)
 
 -- ---- all parts
 
 module _ (w : World) (h : IsWorld w) where
-  old_source : IsSource w.old_prog.unit
+  pub old_source : IsSource w.old_prog.unit
   old_source = subst IsSource (sym h.old_unit) tt
 
-  new_source : IsSource w.new_prog.unit
+  pub new_source : IsSource w.new_prog.unit
   new_source = subst IsSource (sym h.new_unit) tt
 
   parts_low : AreLow (world_of w) 64
