@@ -94,8 +94,8 @@ module _ (d : ℕ) where
   ended : {n : ℕ} {ts : List Token} (at : At) → Passes n ts → Passes n (ts ++ (mark semicolon at ∷ []))
   ended at h = both h (end at)
 
-  is : {n : ℕ} {ts : List Token} (at : At) → Passes n ts → Passes n (mark equals at ∷ ts)
-  is at = one (mark equals at) (λ now. refl)
+  equals_then : {n : ℕ} {ts : List Token} (at : At) → Passes n ts → Passes n (mark equals at ∷ ts)
+  equals_then at = one (mark equals at) (λ now. refl)
 
   -- ---- parts with commas between
 
@@ -183,7 +183,7 @@ module _ (d : ℕ) where
 
   one_passes : {n : ℕ} (t : OneTree) → one_height t ≤ n + 1 → Passes n (one_tokens t)
   one_passes (tree.ignored f to) le = weaker (function_ends f to) (omega (arith, le))
-  one_passes (tree.kept at x eq f to) le = name at x (is eq (weaker (function_ends f to) (omega (arith, le))))
+  one_passes (tree.kept at x eq f to) le = name at x (equals_then eq (weaker (function_ends f to) (omega (arith, le))))
 
   pick_passes : {n : ℕ} (t : PickTree) → pick_height t + 1 ≤ n → Passes n (pick_tokens t)
   pick_passes (tree.bare a) le = one_passes a (omega (arith, le))
@@ -197,10 +197,10 @@ module _ (d : ℕ) where
 
   simple_passes : (t : Simple) → Passes (simple_height t) (simple_tokens t)
   simple_passes (tree.skip at) = end at
-  simple_passes (tree.set at x eq y to) = name at x (is eq (side_ends y to (omega arith)))
-  simple_passes (tree.set_element at x o t c eq y to) = name at x (in_square o c (tree_passes t) (omega arith) (is eq (side_ends y to (omega arith))))
-  simple_passes (tree.declaration int at x eq y to) = key int_key int (name at x (is eq (side_ends y to (omega arith))))
-  simple_passes (tree.pointer int p eq y to) = key int_key int (both (weaker (pointer_passes p) (omega arith)) (is eq (side_ends y to (omega arith))))
+  simple_passes (tree.set at x eq y to) = name at x (equals_then eq (side_ends y to (omega arith)))
+  simple_passes (tree.set_element at x o t c eq y to) = name at x (in_square o c (tree_passes t) (omega arith) (equals_then eq (side_ends y to (omega arith))))
+  simple_passes (tree.declaration int at x eq y to) = key int_key int (name at x (equals_then eq (side_ends y to (omega arith))))
+  simple_passes (tree.pointer int p eq y to) = key int_key int (both (weaker (pointer_passes p) (omega arith)) (equals_then eq (side_ends y to (omega arith))))
   simple_passes (tree.run t to) = ended to (weaker (call_passes t) (omega arith))
   simple_passes (tree.break_loop at to) = key break_key at (end to)
   simple_passes (tree.return_off at to) = key return_key at (end to)
@@ -254,16 +254,16 @@ module _ (d : ℕ) where
 
   number_passes : (i : NumberInit) → Passes 0 (number_init_tokens i)
   number_passes unit.nothing = empty
-  number_passes (unit.given eq x) = is eq (signed_passes x)
+  number_passes (unit.given eq x) = equals_then eq (signed_passes x)
 
   array_passes : (i : ArrayInit) → Passes 1 (array_init_tokens i)
   array_passes unit.nothing = empty
-  array_passes (unit.given eq o xs c) = is eq (in_braces o c (each signed_tokens 0 signed_passes xs) (omega arith) empty)
+  array_passes (unit.given eq o xs c) = equals_then eq (in_braces o c (each signed_tokens 0 signed_passes xs) (omega arith) empty)
 
   target_passes : (i : PointerInit) → Passes 0 (pointer_init_tokens i)
   target_passes unit.nothing = empty
-  target_passes (unit.function eq at f) = is eq (name at f empty)
-  target_passes (unit.null eq at) = is eq (number at (pos 0) empty)
+  target_passes (unit.function eq at f) = equals_then eq (name at f empty)
+  target_passes (unit.null eq at) = equals_then eq (number at (pos 0) empty)
 
   external_passes : {n : ℕ} (x : External) → external_height x + 2 ≤ n → Passes n (external_tokens x)
   external_passes (unit.number int at x i to) le = key int_key int (name at x (ended to (weaker (number_passes i) (omega arith))))

@@ -153,28 +153,28 @@ module _ (W : World) (o : Provenance) where
   params_renamed [] h = tt
   params_renamed (q ∷ ps) h = ((h.0.0, variable_fits W o q.1 h.0.1), params_renamed ps h.1)
 
-  abbrev rho : Provenance → Bytes → Bytes
-  rho = variable_name W
+  abbrev ρ : Provenance → Bytes → Bytes
+  ρ = variable_name W
 
   still_declared : (ps : List (Kind × Bytes)) (sc : Scope) (y : Bytes) → is_declared sc y ≡ true → is_declared (all_declared ps sc) y ≡ true
   still_declared [] sc y h = h
   still_declared (q ∷ ps) sc y h = still_declared ps (declare sc q.1) y (declared_before sc q.1 y h)
 
   params_covered : (ps : List (Kind × Bytes)) (sc : Scope) (x : Bytes) → Contains (map (λ (q : Kind × Bytes). q.1) ps) x
-      → is_declared (all_declared (map (merged_param W o) ps) sc) (rho o x) ≡ true
+      → is_declared (all_declared (map (merged_param W o) ps) sc) (ρ o x) ≡ true
   params_covered [] sc x there = absurd (let lt = there.1 in omega (arith, lt))
   params_covered (q ∷ ps) sc x there = elim (one_of q.1 x (map (λ (q : Kind × Bytes). q.1) ps) there) [
     | inl same ↦
-        subst (λ (z : Bytes). is_declared (all_declared (map (merged_param W o) (q ∷ ps)) sc) (rho o z) ≡ true) same
-        (still_declared (map (merged_param W o) ps) (declare sc (rho o q.1)) (rho o q.1) (declared_now sc (rho o q.1)))
-    | inr old ↦ params_covered ps (declare sc (rho o q.1)) x old
+        subst (λ (z : Bytes). is_declared (all_declared (map (merged_param W o) (q ∷ ps)) sc) (ρ o z) ≡ true) same
+        (still_declared (map (merged_param W o) ps) (declare sc (ρ o q.1)) (ρ o q.1) (declared_now sc (ρ o q.1)))
+    | inr old ↦ params_covered ps (declare sc (ρ o q.1)) x old
   ]
 
   merged_reads : (name : Bytes) (behind : List Stmt) (f : Func) → IsName name → FitsBehind behind → IsGoodFunc f → IsReadable (merged_func W o name behind f)
   merged_reads name behind f is after h =
-      let ss = merged_statements W.permits rho (function_name W) o (body_of f.body) in
+      let ss = merged_statements W.permits ρ (function_name W) o (body_of f.body) in
       let sc = start_scope (map (merged_param W o) f.params) in
-      let body = all_read W.permits rho (function_name W) o (variable_fits W o) (function_fits W o) (start_of f) sc (body_of f.body) (params_covered f.params _) h.body in
+      let body = all_read W.permits ρ (function_name W) o (variable_fits W o) (function_fits W o) (start_of f) sc (body_of f.body) (params_covered f.params _) h.body in
       readable (merged_func W o name behind f) is (params_renamed f.params h.params)
       (both_fit (merged_body W o f.body) behind (built_fits ss body.fits) after.fits)
       (both_keep (merged_body W o f.body) behind sc (built_keeps sc ss body.keeps) after.keeps)

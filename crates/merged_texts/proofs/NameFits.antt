@@ -4,7 +4,7 @@ use Rattle.std.specs.List.{list_all, starts_with}
 use Rattle.std.proofs.Common.{refl, sym, ap, subst, ◌∙◌}
 use Rattle.std.proofs.lemmas.List.{take-append-drop}
 use Rattle.std.proofs.lemmas.Slice.Eq.{bytes_eq-Decides}
-use Rattle.c_lang.specs.Names.{Bytes, is_letter, is_word, is_reserved, behind}
+use Rattle.c_lang.specs.Names.{Bytes, is_reserved, behind}
 use Rattle.c_lang.specs.Programs.{func_named}
 use Rattle.c_lang.specs.declared.unit.Unit.{Unit}
 use Rattle.c_grammar.specs.Bytes.{is_in_word}
@@ -23,7 +23,8 @@ use Rattle.version_names.specs.declared.part.Origin.{Origin}
 use Rattle.version_names.specs.declared.part.Origin.TheVariants as prefix
 use Rattle.update_semantics.specs.UpdatingRun.{World, old_or_new, linked_by_prefix, client_funcs, cell_meaning, function_meaning}
 use Rattle.merged_program.specs.Names.{now_name, choice_name, result_name, parameter_name, is_foreign, kept_name, cell_name, code_name, variable_name, function_name}
-use Rattle.merge_printer.proofs.Words.{IsName, numbered_word}
+use Rattle.merge_printer.proofs.HeadLaw.{number_name_fits}
+use Rattle.merge_printer.proofs.Words.{all_in_word, IsName, numbered_word}
 use Rattle.written_laws.specs.SourceNames as written
 
 -- ---- words
@@ -31,17 +32,13 @@ use Rattle.written_laws.specs.SourceNames as written
 abbrev pub InWord : Bytes → Type 0
 InWord x = list_all is_in_word x ≡ true
 
-in_word : (x : Bytes) → is_word x ≡ true → InWord x
-in_word [] h = refl
-in_word (byte ∷ x) h = let both = and_both (is_letter byte) (list_all is_in_word x) h in rw (both.0, both.1) refl
-
 drop_in_word : (n : ℕ) (x : Bytes) → InWord x → InWord (drop n x)
 drop_in_word zero x h = h
 drop_in_word (suc n) [] h = refl
 drop_in_word (suc n) (byte ∷ x) h = drop_in_word n x (and_both (is_in_word byte) (list_all is_in_word x) h).1
 
 pub name_in_word : (x : Bytes) → IsName x → InWord x
-name_in_word x h = in_word x h.0
+name_in_word x h = all_in_word x h.0
 
 temporary_name : (n : ℕ) → IsName (temporary n)
 unfolding temporary keyword_number
@@ -55,8 +52,7 @@ pub source_word : (u : Unit) (x : Bytes) → written.IsWord u x → IsName x
 source_word u x h = (h.word, h.no_keyword)
 
 pub parameter_fits : (n : ℕ) → IsName (parameter_name n)
-unfolding keyword_number
-parameter_fits n = (numbered_word n, refl)
+parameter_fits = number_name_fits
 
 pub now_fits : IsName now_name
 unfolding keyword_number

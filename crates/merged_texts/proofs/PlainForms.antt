@@ -1,20 +1,14 @@
--- Resolution changes no height, and a program has the positions of its plain form.
-use Rattle.std.specs.Prelude.{◌≡◌, List, [], ◌∷◌, map, All}
-use Rattle.std.proofs.Common.{sym, ap, subst, ◌∙◌}
+-- A plain form has the positions of its program.
+use Rattle.std.specs.Prelude.{List, [], ◌∷◌, map, All}
+use Rattle.std.proofs.Common.{sym, subst}
 use Rattle.std.proofs.lemmas.List.Elements.{All-nil, All-cons, All-head, All-tail}
 use Rattle.c_lang.specs.Positions.{StatementsHavePositions, FuncHasPositions, ProgramHasPositions}
 use Rattle.c_lang.specs.declared.program.Func.{Func}
 use Rattle.c_lang.specs.declared.program.Program.{Program}
 use Rattle.c_types.specs.Bodies.{body_of}
-use Rattle.c_types.specs.Plain.{PlainProgram, plain_statements, plain_func, plain_program, built_func, plain}
-use Rattle.merge_printer.specs.Heights.{funcs_height}
-use Rattle.merge_printer.proofs.HeightLaw.{same_funcs}
+use Rattle.c_types.specs.Plain.{plain_statements, plain_func, built_func, plain}
 use Rattle.merge_printer.proofs.PlainLaw.{statements_back}
 use Rattle.written_laws.proofs.PlainPositions.{plain_have}
-
--- programs with the same plain form are as high
-pub same_heights : (r p : Program) → plain_program r ≡ plain_program p → funcs_height r.funcs ≡ funcs_height p.funcs
-same_heights r p e = sym (same_funcs r.funcs) ∙ ap (λ (Q : PlainProgram). funcs_height (map built_func Q.funcs)) e ∙ same_funcs p.funcs
 
 func_at : (f : Func) → FuncHasPositions f → FuncHasPositions (built_func (plain_func f))
 func_at f h =

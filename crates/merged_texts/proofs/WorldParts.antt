@@ -18,10 +18,11 @@ use Rattle.state_xform.specs.Refusals.{resolved_transformer}
 use Rattle.update_semantics.specs.Worlds.{World, IsWorld, world_of}
 use Rattle.merged_program.specs.Programs.{merged_program}
 use Rattle.merge_printer.specs.Heights.{funcs_height}
+use Rattle.merge_printer.proofs.HeightLaw.{same_heights}
 use Rattle.written_laws.specs.Sources.{IsSource}
 use Rattle.written_laws.proofs.PlainPositions.{same_positions}
 use Rattle.written_laws.proofs.WrittenPositions.{written_positions}
-use Rattle.merged_texts.proofs.PlainForms.{same_heights, plain_positions}
+use Rattle.merged_texts.proofs.PlainForms.{plain_positions}
 use Rattle.merged_texts.proofs.TransformerForms.{plain_transformer}
 use Rattle.merged_texts.proofs.WrittenHeights.{written_low}
 use Rattle.merged_texts.proofs.MergedHeights.{AreLow, merged_low}

@@ -6,7 +6,6 @@ use Rattle.c_lang.specs.Trees.{expression_of, Statement, statement_of, skip, set
 use Rattle.c_lang.specs.declared.unit.Unit.{Unit}
 use Rattle.c_lang.specs.declared.unit.Pos.{Pos}
 use Rattle.c_lang.specs.declared.expr.Expr.{Expr}
-use Rattle.c_lang.specs.declared.expr.Expr.TheVariants as expr
 use Rattle.c_lang.specs.declared.stmt.Kind.TheVariants as kind
 use Rattle.c_lang.specs.declared.stmt.Dest.{Dest}
 use Rattle.c_lang.specs.declared.stmt.Dest.TheVariants.{Nowhere, Into, Fresh}
@@ -22,7 +21,7 @@ use Rattle.c_grammar.specs.declared.right.Right.TheVariants as right
 use Rattle.c_grammar.specs.Scopes.{Scope, is_declared, declare, one_more, temporary}
 use Rattle.c_grammar.specs.Statements.{CondTree, cond_tokens, side_tokens, call_tokens, pointer_tokens, function_call_tokens, arity, OneTree, one_tokens, one_stmt, PickTree, pick_tokens, pick_stmt, Simple, simple_tokens, simple_scope, simple_stmts, IsSimple, Piece, Body, Pieces, tokens, body_tokens, pieces_tokens, IsPiece, IsBody, ArePieces, stmts, body_stmts, pieces_stmts, scope_after, body_scope, pieces_scope, exprs_of, right_of, call_of, call_pos, call_to, right_to, stored, set_stmts, set_scope}
 use Rattle.c_grammar.specs.Statements as tree
-use Rattle.written_laws.specs.Walk.{Context, with_dest, told, told_all, in_loop, in_pick, past, past_all, Throughout, ThroughoutAll}
+use Rattle.written_laws.specs.Walk.{Context, with_dest, told, told_all, in_loop, in_pick, past_all, Throughout, ThroughoutAll}
 use Rattle.c_types.specs.Bodies.{body_of}
 use Rattle.written_laws.specs.Breaks.{IsNoStrayBreak}
 use Rattle.written_laws.specs.Destinations.{OfResult, IsLocal}
