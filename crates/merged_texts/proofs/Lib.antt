@@ -1,15 +1,15 @@
-mod ExpressionHeights
-mod StatementHeights
-mod WrittenHeights
-mod PlainForms
-mod MergedHeights
-mod MergedPositions
-mod Printing
-mod TransformerForms
-mod WorldParts
-mod NameFits
-mod SourceStatements
-mod StatementFits
-mod FunctionFits
-mod GlobalFits
-mod Fits
+pub mod ExpressionHeights
+pub mod StatementHeights
+pub mod WrittenHeights
+pub mod PlainForms
+pub mod MergedHeights
+pub mod MergedPositions
+pub mod Printing
+pub mod TransformerForms
+pub mod WorldParts
+pub mod NameFits
+pub mod SourceStatements
+pub mod StatementFits
+pub mod FunctionFits
+pub mod GlobalFits
+pub mod Fits

@@ -178,13 +178,25 @@ module _ (W : World) where
       let xforms = map (xform_func W) W.xform.funcs ++ clients in
       let wrappers = map wrapper (filter (is_wrapped W) W.first.funcs) ++ xforms in
       let news = map (new_func W) W.second.funcs ++ wrappers in
-      omega (arith, h.first, h.second, h.xform, h.client, old_low, new_low, xform_low, client_low,
-        wrappers_low (filter (is_wrapped W) W.first.funcs), main_low W.client, one_func (merged_main W W.client),
+      omega (
+        arith,
+        h.first,
+        h.second,
+        h.xform,
+        h.client,
+        old_low,
+        new_low,
+        xform_low,
+        client_low,
+        wrappers_low (filter (is_wrapped W) W.first.funcs),
+        main_low W.client,
+        one_func (merged_main W W.client),
         both_funcs (map (old_func W) W.first.funcs) news,
         both_funcs (map (new_func W) W.second.funcs) wrappers,
         both_funcs (map wrapper (filter (is_wrapped W) W.first.funcs)) xforms,
         both_funcs (map (xform_func W) W.xform.funcs) clients,
-        both_funcs (map (client_func W) (client_funcs W)) last)
+        both_funcs (map (client_func W) (client_funcs W)) last,
+      )
 
   pub merged_low : (most : ℕ) → AreLow W most → funcs_height (plain (merged_program W)).funcs ≤ most + 4
   merged_low most h = omega (arith, same_funcs (merged_funcs W), funcs_low most h)
