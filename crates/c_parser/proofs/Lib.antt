@@ -5,3 +5,4 @@ pub mod UnitTurns
 pub mod ParsedLaws
 pub mod WrittenLaws
 pub mod TextLaws
+pub mod OpenBrackets

@@ -12,6 +12,6 @@ mod parts;
 mod text;
 mod units;
 
-pub use laws::{one_program, one_program_of_text, parsed_is_written};
+pub use laws::{one_program, one_program_of_text, open_brackets_are_few, parsed_is_written};
 pub use parser::parse;
 pub use text::parse_text;

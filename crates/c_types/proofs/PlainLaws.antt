@@ -175,7 +175,7 @@ mutual
 
 -- ---- functions and programs
 
-plain_func_resolved : (outside : Entries) (xform : Bool) (f : Func) → IsTypedFunc outside xform f
+pub plain_func_resolved : (outside : Entries) (xform : Bool) (f : Func) → IsTypedFunc outside xform f
     → plain_func (resolved_func outside xform f) ≡ plain_func f
 plain_func_resolved outside xform f h =
     let s = body_scope outside xform f in

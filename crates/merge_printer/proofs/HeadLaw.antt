@@ -146,7 +146,7 @@ pub kinds_of_numbered : (n : ℕ) (ks : List Kind) → map (λ (x : Param). x.0)
 kinds_of_numbered n [] = refl
 kinds_of_numbered n (k ∷ ks) = ap (λ (zs : List Kind). k ∷ zs) (kinds_of_numbered (n + 1) ks)
 
-number_name_fits : (n : ℕ) → IsName (number_name n)
+pub number_name_fits : (n : ℕ) → IsName (number_name n)
 unfolding keyword_number
 number_name_fits n = (numbered_word n, refl)
 

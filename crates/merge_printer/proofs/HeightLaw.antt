@@ -5,7 +5,7 @@ use Rattle.c_lang.specs.Trees.{Expression, literal, variable, element, function,
 use Rattle.c_lang.specs.declared.unit.Unit.{Unit}
 use Rattle.c_lang.specs.declared.program.Func.{Func}
 use Rattle.c_lang.specs.declared.program.Program.{Program}
-use Rattle.c_types.specs.Plain.{PlainProgram, plain_expression, plain_statement, plain_statements, plain_func}
+use Rattle.c_types.specs.Plain.{PlainProgram, plain_expression, plain_statement, plain_statements, plain_func, plain_program}
 use Rattle.c_types.specs.Programs.{resolved_program}
 use Rattle.c_types.specs.Types.{Types}
 use Rattle.c_types.proofs.PlainLaws.{plain_resolved_program}
@@ -52,10 +52,13 @@ mutual
   same_statements none = refl
   same_statements (more s ss) = ap₂ max (same_statement s) (same_statements ss)
 
-same_funcs : (fs : List Func) → funcs_height (map built_func (map plain_func fs)) ≡ funcs_height fs
+pub same_funcs : (fs : List Func) → funcs_height (map built_func (map plain_func fs)) ≡ funcs_height fs
 same_funcs [] = refl
 same_funcs (f ∷ fs) = ap₂ max (ap statements_height (statements_back (plain_statements (body_of f))) ∙ same_statements (body_of f)) (same_funcs fs)
 
+-- programs with the same plain form are as high
+pub same_heights : (r p : Program) → plain_program r ≡ plain_program p → funcs_height r.funcs ≡ funcs_height p.funcs
+same_heights r p e = sym (same_funcs r.funcs) ∙ ap (λ (Q : PlainProgram). funcs_height (map built_func Q.funcs)) e ∙ same_funcs p.funcs
+
 pub height_kept : (u : Unit) (P : Program) → Types u P → funcs_height (resolved_program P).funcs ≡ funcs_height P.funcs
-height_kept u P h =
-    sym (same_funcs (resolved_program P).funcs) ∙ ap (λ (Q : PlainProgram). funcs_height (map built_func Q.funcs)) (plain_resolved_program u P h) ∙ same_funcs P.funcs
+height_kept u P h = same_heights (resolved_program P) P (plain_resolved_program u P h)

@@ -1,25 +1,25 @@
-mod Ints
-mod Else
-mod Appends
-mod Chains
-mod Words
-mod ExpressionLaw
-mod PositionLaw
-mod SideLaw
-mod Fitting
-mod StatementLaw
-mod HeadLaw
-mod GlobalLaw
-mod DeclarationLaw
-mod ProgramLaw
-mod GivenTokens
-mod WrittenExpressions
-mod ReadScopes
-mod WrittenSides
-mod WrittenStatements
-mod WrittenProgram
-mod PlainLaw
-mod PrintLaw
-mod StatementTrees
-mod TypedLaw
-mod HeightLaw
+pub mod Ints
+pub mod Else
+pub mod Appends
+pub mod Chains
+pub mod Words
+pub mod ExpressionLaw
+pub mod PositionLaw
+pub mod SideLaw
+pub mod Fitting
+pub mod StatementLaw
+pub mod HeadLaw
+pub mod GlobalLaw
+pub mod DeclarationLaw
+pub mod ProgramLaw
+pub mod GivenTokens
+pub mod WrittenExpressions
+pub mod ReadScopes
+pub mod WrittenSides
+pub mod WrittenStatements
+pub mod WrittenProgram
+pub mod PlainLaw
+pub mod PrintLaw
+pub mod StatementTrees
+pub mod TypedLaw
+pub mod HeightLaw

@@ -17,7 +17,7 @@ use Rattle.merge_printer.proofs.ProgramLaw.{ProgramFits, prints_program}
 use Rattle.merge_printer.proofs.WrittenProgram.{written_reads}
 use Rattle.merge_printer.proofs.PlainLaw.{same_text, all_built}
 
-both : (fs : List Func) → All FuncReads fs → All IsBuilt fs → All FuncFits fs
+pub both : (fs : List Func) → All FuncReads fs → All IsBuilt fs → All FuncFits fs
 both [] a b = All-nil FuncFits
 both (f ∷ fs) a b = All-cons FuncFits f fs (All-head FuncReads f fs a, All-head IsBuilt f fs b) (both fs (All-tail FuncReads f fs a) (All-tail IsBuilt f fs b))
 

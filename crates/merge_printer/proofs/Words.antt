@@ -148,7 +148,7 @@ never_refused : (x : Bytes) → is_refused Merge x ≡ false
 unfolding is_allowed
 never_refused x = and_false (is_reserved x)
 
-all_in_word : (x : Bytes) → is_word x ≡ true → list_all is_in_word x ≡ true
+pub all_in_word : (x : Bytes) → is_word x ≡ true → list_all is_in_word x ≡ true
 all_in_word [] h = refl
 all_in_word (byte ∷ x) h = let both = and_both (is_letter byte) (list_all is_in_word x) h in rw (both.0, both.1) refl
 

@@ -9,12 +9,16 @@ use Rattle.c_types.specs.Kept.{TypedProgram, IsKept}
 use Rattle.c_types.specs.Plain.{plain_expression, plain_statement}
 use Rattle.c_types.specs.Programs.{resolved_program}
 use Rattle.c_types.proofs.PlainLaws.{plain_resolved_program}
+use Rattle.c_lang.specs.Positions.{ProgramHasPositions}
+use Rattle.written_laws.specs.Sources.{IsSource}
 use Rattle.written_laws.specs.Walk.{Context}
 use Rattle.written_laws.specs.Breaks.{IsNoStrayBreak, BreaksStandInLoops}
 use Rattle.written_laws.specs.Destinations.{OfResult, IsNoGlobal, ResultsGoToNoGlobals}
 use Rattle.written_laws.specs.Literals.{IsLiteral, HasInts, HaveInts, ReturnsInts, StatementHasInts, LiteralsAreInts}
 use Rattle.written_laws.proofs.PlainWalks.{same_bodies}
 use Rattle.written_laws.proofs.WrittenLaws.{breaks, ints, no_globals}
+use Rattle.written_laws.proofs.WrittenPositions.{written_positions}
+use Rattle.written_laws.proofs.PlainPositions.{same_positions}
 
 -- ---- breaks
 
@@ -144,3 +148,8 @@ module _ (kept : TypedProgram) (h : IsKept kept) where
         initial = laws.initial;
         bodies = same_bodies StatementHasInts ints_forth ints_back (resolved_program h.source) h.source (plain_resolved_program kept.unit h.source h.typed) laws.bodies;
       })
+
+  pub kept_positions : IsSource kept.unit → ProgramHasPositions kept.program
+  kept_positions source =
+      of_resolved ProgramHasPositions
+      (same_positions (resolved_program h.source) h.source (plain_resolved_program kept.unit h.source h.typed) (written_positions kept.unit h.source source h.written))

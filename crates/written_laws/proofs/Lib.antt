@@ -1,11 +1,15 @@
-mod GivenWords
-mod Walks
-mod TreeFits
-mod Scopes
-mod StatementFits
-mod ProgramFits
-mod TypedLocals
-mod WrittenLaws
-mod NameLaws
-mod PlainWalks
-mod KeptLaws
+pub mod GivenWords
+pub mod Walks
+pub mod TreeFits
+pub mod Scopes
+pub mod StatementFits
+pub mod ProgramFits
+pub mod TypedLocals
+pub mod WrittenLaws
+pub mod NameLaws
+pub mod PlainWalks
+pub mod GivenPositions
+pub mod StatementPositions
+pub mod WrittenPositions
+pub mod PlainPositions
+pub mod KeptLaws

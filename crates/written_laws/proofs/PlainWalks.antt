@@ -97,7 +97,7 @@ module _ (P : Context → Statement → Type 0) (forth : (at : Context) (s : Sta
   abbrev start_at : List (Kind × Bytes) → Context
   start_at params = record { in_loop = false; in_pick = false; declared = map (λ (q : Kind × Bytes). q.1) params }
 
-  same_func : (r f : Func) → plain_func r ≡ plain_func f → Body f → Body r
+  pub same_func : (r f : Func) → plain_func r ≡ plain_func f → Body f → Body r
   same_func r f e h =
       let there = to_plain_all (start_of f) (body_of f.body) h in
       let bodies : plain_statements (body_of f.body) ≡ plain_statements (body_of r.body) = sym (ap (λ (q : PlainFunc). q.body) e) in

@@ -7,7 +7,6 @@ use Rattle.c_lang.specs.Names.{Bytes}
 use Rattle.c_lang.specs.declared.unit.Unit.{Unit}
 use Rattle.c_lang.specs.declared.refusal.Refusal.{Refusal}
 use Rattle.c_lang.specs.declared.stmt.Kind.{Kind}
-use Rattle.c_lang.specs.declared.program.Shape.{Shape}
 use Rattle.c_lang.specs.declared.program.Shape.TheVariants as shape
 use Rattle.c_lang.specs.declared.program.GlobalVar.{GlobalVar}
 use Rattle.c_lang.specs.declared.program.Proto.{Proto}

@@ -1,12 +1,11 @@
 -- The statements of a text that is written in a unit: one walk over its tree.
-use Rattle.std.specs.Prelude.{◌≡◌, Bool, true, false, cond, ◌+◌, List, [], ◌∷◌, ◌++◌, map, Some, None}
+use Rattle.std.specs.Prelude.{⊤, ◌≡◌, Bool, true, false, cond, ◌+◌, List, [], ◌∷◌, ◌++◌, map, Some, None}
 use Rattle.std.proofs.Common.{refl, sym, subst}
 use Rattle.c_lang.specs.Names.{Bytes}
 use Rattle.c_lang.specs.Trees.{expression_of, Statement, statement_of, skip, set, set_element, call, if_else, while_loop, break_loop, return_with, assert_that, input, output, point, choice, force, pick, none, more}
 use Rattle.c_lang.specs.declared.unit.Unit.{Unit}
 use Rattle.c_lang.specs.declared.unit.Pos.{Pos}
 use Rattle.c_lang.specs.declared.expr.Expr.{Expr}
-use Rattle.c_lang.specs.declared.expr.Expr.TheVariants as expr
 use Rattle.c_lang.specs.declared.stmt.Kind.TheVariants as kind
 use Rattle.c_lang.specs.declared.stmt.Dest.{Dest}
 use Rattle.c_lang.specs.declared.stmt.Dest.TheVariants.{Nowhere, Into, Fresh}
@@ -22,7 +21,7 @@ use Rattle.c_grammar.specs.declared.right.Right.TheVariants as right
 use Rattle.c_grammar.specs.Scopes.{Scope, is_declared, declare, one_more, temporary}
 use Rattle.c_grammar.specs.Statements.{CondTree, cond_tokens, side_tokens, call_tokens, pointer_tokens, function_call_tokens, arity, OneTree, one_tokens, one_stmt, PickTree, pick_tokens, pick_stmt, Simple, simple_tokens, simple_scope, simple_stmts, IsSimple, Piece, Body, Pieces, tokens, body_tokens, pieces_tokens, IsPiece, IsBody, ArePieces, stmts, body_stmts, pieces_stmts, scope_after, body_scope, pieces_scope, exprs_of, right_of, call_of, call_pos, call_to, right_to, stored, set_stmts, set_scope}
 use Rattle.c_grammar.specs.Statements as tree
-use Rattle.written_laws.specs.Walk.{Context, with_dest, told, told_all, in_loop, in_pick, past, past_all, Throughout, ThroughoutAll}
+use Rattle.written_laws.specs.Walk.{Context, with_dest, told, told_all, in_loop, in_pick, past_all, Throughout, ThroughoutAll}
 use Rattle.c_types.specs.Bodies.{body_of}
 use Rattle.written_laws.specs.Breaks.{IsNoStrayBreak}
 use Rattle.written_laws.specs.Destinations.{OfResult, IsLocal}
@@ -34,8 +33,19 @@ use Rattle.written_laws.proofs.Walks.{told_append, throughout_append}
 use Rattle.written_laws.proofs.TreeFits.{ExprFits, ExprsFit, CallFits, RightFits, tree_fits, function_call_fits, number_fits, call_fits, side_fits}
 use Rattle.written_laws.proofs.Scopes.{Covers, covers_more, covers_both}
 
+-- an assignment goes somewhere
+abbrev pub IsTarget : Dest → Type 0
+IsTarget Nowhere = ⊥
+IsTarget (Into x) = ⊤
+IsTarget (Fresh k x) = ⊤
+
+abbrev pub HasTarget : Statement → Type 0
+HasTarget (set p d e) = IsTarget d
+HasTarget s = ⊤
+
 -- all that the laws say of a statement
 pub record IsFit (u : Unit) (at : Context) (s : Statement) : Type 0 where
+  pub target : HasTarget s
   pub breaks : IsNoStrayBreak at s
   pub results : OfResult (IsLocal at) s
   pub ints : StatementHasInts at s
@@ -70,17 +80,17 @@ condition_fits u c h = tree_fits u c.tree (fit_append u (e.tokens_of c.tree) (ma
 module _ (u : Unit) (at : Context) (after : Scope) where
   call_goes : (p : Pos) (d : Dest) (a : Call) → CallFits u a → DestHasNames u d → IsLocal at d → Covers after (with_dest at.declared d) → Fits u at (call_to p d a ∷ []) after
   call_goes p d (c.Function f es) h fits local covers =
-      one_fits (call p d f (map expression_of es)) (statement_of-Call p d f es) (record { breaks = tt; results = local; ints = h.1.ints; words = (fits, h.0, h.1.words) }) covers
-  call_goes p d c.Input h fits local covers = one_fits (input p d) (statement_of-Input p d) (record { breaks = tt; results = local; ints = tt; words = fits }) covers
-  call_goes p d (c.Choice k) h fits local covers = one_fits (choice p d k) (statement_of-Choice p d k) (record { breaks = tt; results = local; ints = h; words = fits }) covers
+      one_fits (call p d f (map expression_of es)) (statement_of-Call p d f es) (record { target = tt; breaks = tt; results = local; ints = h.1.ints; words = (fits, h.0, h.1.words) }) covers
+  call_goes p d c.Input h fits local covers = one_fits (input p d) (statement_of-Input p d) (record { target = tt; breaks = tt; results = local; ints = tt; words = fits }) covers
+  call_goes p d (c.Choice k) h fits local covers = one_fits (choice p d k) (statement_of-Choice p d k) (record { target = tt; breaks = tt; results = local; ints = h; words = fits }) covers
 
-  value_goes : (p : Pos) (d : Dest) (a : Expr) → ExprFits u a → DestHasNames u d → Covers after (with_dest at.declared d) → Fits u at (stmt.Set p d a ∷ []) after
-  value_goes p d a h fits covers =
-      one_fits (set p d (expression_of a)) (statement_of-Set p d a) (record { breaks = tt; results = tt; ints = h.ints; words = (fits, h.words) }) covers
+  value_goes : (p : Pos) (d : Dest) (a : Expr) → ExprFits u a → IsTarget d → DestHasNames u d → Covers after (with_dest at.declared d) → Fits u at (stmt.Set p d a ∷ []) after
+  value_goes p d a h target fits covers =
+      one_fits (set p d (expression_of a)) (statement_of-Set p d a) (record { target = target; breaks = tt; results = tt; ints = h.ints; words = (fits, h.words) }) covers
 
-  right_goes : (p : Pos) (d : Dest) (r : Right) → RightFits u r → DestHasNames u d → IsLocal at d → Covers after (with_dest at.declared d) → Fits u at (right_to p d r ∷ []) after
-  right_goes p d (right.Value a) h fits local covers = value_goes p d a h fits covers
-  right_goes p d (right.Call a) h fits local covers = call_goes p d a h fits local covers
+  right_goes : (p : Pos) (d : Dest) (r : Right) → RightFits u r → IsTarget d → DestHasNames u d → IsLocal at d → Covers after (with_dest at.declared d) → Fits u at (right_to p d r ∷ []) after
+  right_goes p d (right.Value a) h target fits local covers = value_goes p d a h target fits covers
+  right_goes p d (right.Call a) h target fits local covers = call_goes p d a h fits local covers
 
 -- ---- temporaries
 
@@ -114,10 +124,10 @@ set_fits u at p x sc r word h covers = by_test (is_declared sc x) refl
   where
     by_test : (b : Bool) → is_declared sc x ≡ b
         → Fits u at (cond b (right_to p (Into x) r ∷ []) ((stored p sc r).before ++ (stmt.Set p (Into x) (stored p sc r).value ∷ []))) (cond b sc (stored p sc r).scope)
-    by_test true test = right_goes u at sc p (Into x) r h word (λ free. covers x test) covers
+    by_test true test = right_goes u at sc p (Into x) r h tt word (λ free. covers x test) covers
     by_test false test =
         after_stored u at p sc r (stmt.Set p (Into x) (stored p sc r).value) h covers
-        (λ now covers value. value_goes u now (stored p sc r).scope p (Into x) (stored p sc r).value value word covers)
+        (λ now covers value. value_goes u now (stored p sc r).scope p (Into x) (stored p sc r).value value tt word covers)
 
 -- ---- picks
 
@@ -128,7 +138,7 @@ module _ (u : Unit) (at : Context) where
   in_a_pick (Fresh k x) = tt
 
   pick_call : (p : Pos) (d : Dest) (f : Bytes) (es : List Expr) → IsWord u f × ExprsFit u es → DestHasNames u d → Throughout (IsFit u) (in_pick at) (statement_of (stmt.Call p d f es))
-  pick_call p d f es h fits = rw (statement_of-Call p d f es) (record { breaks = tt; results = in_a_pick d; ints = h.1.ints; words = (fits, h.0, h.1.words) })
+  pick_call p d f es h fits = rw (statement_of-Call p d f es) (record { target = tt; breaks = tt; results = in_a_pick d; ints = h.1.ints; words = (fits, h.0, h.1.words) })
 
   one_call : (t : OneTree) → TokensFit u (one_tokens t) → Throughout (IsFit u) (in_pick at) (statement_of (one_stmt t))
   one_call (tree.ignored c end) h =
@@ -144,7 +154,7 @@ module _ (u : Unit) (at : Context) where
 
 module _ (u : Unit) (may_declare : Bool) (at : Context) (sc : Scope) (covers : Covers sc at.declared) where
   simple_fits : (t : Simple) → IsSimple u may_declare at.in_loop t → TokensFit u (simple_tokens t) → Fits u at (simple_stmts t sc) (simple_scope t sc)
-  simple_fits (tree.skip at') valid h = one_fits (skip at'.pos) (statement_of-Skip at'.pos) (record { breaks = tt; results = tt; ints = tt; words = tt }) covers
+  simple_fits (tree.skip at') valid h = one_fits (skip at'.pos) (statement_of-Skip at'.pos) (record { target = tt; breaks = tt; results = tt; ints = tt; words = tt }) covers
   simple_fits (tree.set at' x is y end) valid h =
       set_fits u at at'.pos x sc (right_of y) h.0 (side_fits u y (fit_append u (side_tokens y) (mark semicolon end ∷ []) h.1.1).0) covers
   simple_fits (tree.set_element at' x o t c is y end) valid h =
@@ -154,36 +164,36 @@ module _ (u : Unit) (may_declare : Bool) (at : Context) (sc : Scope) (covers : C
       let v = (stored at'.pos sc (right_of y)).value in
       after_stored u at at'.pos sc (right_of y) (stmt.SetElem at'.pos x (e.expr_of t) v) (side_fits u y side.0) covers
       (λ now covers value. one_fits (set_element at'.pos x (expression_of (e.expr_of t)) (expression_of v)) (statement_of-SetElem at'.pos x (e.expr_of t) v)
-      (record { breaks = tt; results = tt; ints = (index.ints, value.ints); words = (h.0, index.words, value.words) }) covers)
+      (record { target = tt; breaks = tt; results = tt; ints = (index.ints, value.ints); words = (h.0, index.words, value.words) }) covers)
   simple_fits (tree.declaration int at' x is y end) valid h =
       let side = fit_append u (side_tokens y) (mark semicolon end ∷ []) h.1.1.1 in
-      right_goes u at (declare sc x) int.pos (Fresh kind.Int x) (right_of y) (side_fits u y side.0) (names.word h.1.0) tt (covers_both sc at.declared x covers)
+      right_goes u at (declare sc x) int.pos (Fresh kind.Int x) (right_of y) (side_fits u y side.0) tt (names.word h.1.0) tt (covers_both sc at.declared x covers)
   simple_fits (tree.pointer int p is y end) valid h =
       let split = fit_append u (pointer_tokens p) (mark equals is ∷ side_tokens y ++ (mark semicolon end ∷ [])) h.1 in
       let side = fit_append u (side_tokens y) (mark semicolon end ∷ []) split.1.1 in
-      right_goes u at (simple_scope (tree.pointer int p is y end) sc) int.pos (Fresh (kind.Fp (arity p)) p.name) (right_of y) (side_fits u y side.0) (names.word split.0.1.1.0) tt (covers_both sc at.declared p.name covers)
+      right_goes u at (simple_scope (tree.pointer int p is y end) sc) int.pos (Fresh (kind.Fp (arity p)) p.name) (right_of y) (side_fits u y side.0) tt (names.word split.0.1.1.0) tt (covers_both sc at.declared p.name covers)
   simple_fits (tree.run c end) valid h =
       call_goes u at sc (call_pos c) Nowhere (call_of c) (call_fits u c (fit_append u (call_tokens c) (mark semicolon end ∷ []) h).0) tt tt covers
-  simple_fits (tree.break_loop at' end) valid h = one_fits (break_loop at'.pos) (statement_of-Break at'.pos) (record { breaks = valid; results = tt; ints = tt; words = tt }) covers
-  simple_fits (tree.return_off at' end) valid h = one_fits (return_with at'.pos None) (statement_of-Return at'.pos None) (record { breaks = tt; results = tt; ints = tt; words = tt }) covers
+  simple_fits (tree.break_loop at' end) valid h = one_fits (break_loop at'.pos) (statement_of-Break at'.pos) (record { target = tt; breaks = valid; results = tt; ints = tt; words = tt }) covers
+  simple_fits (tree.return_off at' end) valid h = one_fits (return_with at'.pos None) (statement_of-Return at'.pos None) (record { target = tt; breaks = tt; results = tt; ints = tt; words = tt }) covers
   simple_fits (tree.return_side at' y end) valid h =
       let side = fit_append u (side_tokens y) (mark semicolon end ∷ []) h.1 in
       let v = (stored at'.pos sc (right_of y)).value in
       after_stored u at at'.pos sc (right_of y) (stmt.Return at'.pos (Some v)) (side_fits u y side.0) covers
-      (λ now covers value. one_fits (return_with at'.pos (Some (expression_of v))) (statement_of-Return at'.pos (Some v)) (record { breaks = tt; results = tt; ints = value.ints; words = value.words }) covers)
+      (λ now covers value. one_fits (return_with at'.pos (Some (expression_of v))) (statement_of-Return at'.pos (Some v)) (record { target = tt; breaks = tt; results = tt; ints = value.ints; words = value.words }) covers)
   simple_fits (tree.assert_that at' c end) valid h =
       let cond = condition_fits u c (fit_append u (cond_tokens c) (mark semicolon end ∷ []) h.1).0 in
-      one_fits (assert_that at'.pos (expression_of (e.expr_of c.tree))) (statement_of-Assert at'.pos (e.expr_of c.tree)) (record { breaks = tt; results = tt; ints = cond.ints; words = cond.words }) covers
+      one_fits (assert_that at'.pos (expression_of (e.expr_of c.tree))) (statement_of-Assert at'.pos (e.expr_of c.tree)) (record { target = tt; breaks = tt; results = tt; ints = cond.ints; words = cond.words }) covers
   simple_fits (tree.output at' c end) valid h =
       let cond = condition_fits u c (fit_append u (cond_tokens c) (mark semicolon end ∷ []) h.1).0 in
-      one_fits (output at'.pos (expression_of (e.expr_of c.tree))) (statement_of-Output at'.pos (e.expr_of c.tree)) (record { breaks = tt; results = tt; ints = cond.ints; words = cond.words }) covers
+      one_fits (output at'.pos (expression_of (e.expr_of c.tree))) (statement_of-Output at'.pos (e.expr_of c.tree)) (record { target = tt; breaks = tt; results = tt; ints = cond.ints; words = cond.words }) covers
   simple_fits (tree.point at' o n k c end) valid h =
-      one_fits (point at'.pos k) (statement_of-Point at'.pos k) (record { breaks = tt; results = tt; ints = number_fits u k h.1.1.0; words = tt }) covers
-  simple_fits (tree.force at' o c end) valid h = one_fits (force at'.pos) (statement_of-Force at'.pos) (record { breaks = tt; results = tt; ints = tt; words = tt }) covers
+      one_fits (point at'.pos k) (statement_of-Point at'.pos k) (record { target = tt; breaks = tt; results = tt; ints = number_fits u k h.1.1.0; words = tt }) covers
+  simple_fits (tree.force at' o c end) valid h = one_fits (force at'.pos) (statement_of-Force at'.pos) (record { target = tt; breaks = tt; results = tt; ints = tt; words = tt }) covers
   simple_fits (tree.pick at' o v uo uc c a el b) valid h =
       let split = fit_append u (pick_tokens a) (keyword else_key el ∷ pick_tokens b) h.1.1.1.1.1.1 in
       one_fits (pick at'.pos (statement_of (pick_stmt a)) (statement_of (pick_stmt b))) (statement_of-Pick at'.pos (pick_stmt a) (pick_stmt b))
-      (record { breaks = tt; results = tt; ints = tt; words = tt }, pick_fits u at a split.0, pick_fits u at b split.1.1) covers
+      (record { target = tt; breaks = tt; results = tt; ints = tt; words = tt }, pick_fits u at a split.0, pick_fits u at b split.1.1) covers
 
 -- ---- statements and bodies
 
@@ -195,7 +205,7 @@ mutual
       let body = body_fits u b at sc covers valid.1 split.1 in
       let cond = condition_fits u c split.0 in
       one_fits (if_else at'.pos (expression_of (e.expr_of c.tree)) (body_of (body_stmts b sc)) (body_of [])) (statement_of-If at'.pos (e.expr_of c.tree) (body_stmts b sc) [])
-      (record { breaks = tt; results = tt; ints = cond.ints; words = cond.words }, body.fits, tt) body.covers
+      (record { target = tt; breaks = tt; results = tt; ints = cond.ints; words = cond.words }, body.fits, tt) body.covers
   piece_fits u (tree.if_else at' c b el n) may_declare at sc covers valid h =
       let split = fit_append u (cond_tokens c) (body_tokens b ++ (keyword else_key el ∷ body_tokens n)) h.1 in
       let bodies = fit_append u (body_tokens b) (keyword else_key el ∷ body_tokens n) split.1 in
@@ -203,13 +213,13 @@ mutual
       let other = body_fits u n (past_all at (body_of (body_stmts b sc))) (body_scope b sc) body.covers valid.3 bodies.1.1 in
       let cond = condition_fits u c split.0 in
       one_fits (if_else at'.pos (expression_of (e.expr_of c.tree)) (body_of (body_stmts b sc)) (body_of (body_stmts n (body_scope b sc)))) (statement_of-If at'.pos (e.expr_of c.tree) (body_stmts b sc) (body_stmts n (body_scope b sc)))
-      (record { breaks = tt; results = tt; ints = cond.ints; words = cond.words }, body.fits, other.fits) other.covers
+      (record { target = tt; breaks = tt; results = tt; ints = cond.ints; words = cond.words }, body.fits, other.fits) other.covers
   piece_fits u (tree.while_loop at' c b) may_declare at sc covers valid h =
       let split = fit_append u (cond_tokens c) (body_tokens b) h.1 in
       let body = body_fits u b (in_loop at) sc covers valid.1 split.1 in
       let cond = condition_fits u c split.0 in
       one_fits (while_loop at'.pos (expression_of (e.expr_of c.tree)) (body_of (body_stmts b sc))) (statement_of-While at'.pos (e.expr_of c.tree) (body_stmts b sc))
-      (record { breaks = tt; results = tt; ints = cond.ints; words = cond.words }, body.fits) body.covers
+      (record { target = tt; breaks = tt; results = tt; ints = cond.ints; words = cond.words }, body.fits) body.covers
 
   body_fits : (u : Unit) (b : Body) (at : Context) (sc : Scope) → Covers sc at.declared → IsBody u at.in_loop b → TokensFit u (body_tokens b) → Fits u at (body_stmts b sc) (body_scope b sc)
   body_fits u (tree.single t) at sc covers valid h = piece_fits u t false at sc covers valid h

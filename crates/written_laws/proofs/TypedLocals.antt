@@ -97,7 +97,7 @@ free_outside scope x h = by_case (found scope.outside x) h
     by_case None h = refl
     by_case (Some m) h = absurd cc
 
-one_of : (x y : Bytes) (xs : List Bytes) → Contains (x ∷ xs) y → (x ≡ y) ⊎ Contains xs y
+pub one_of : (x y : Bytes) (xs : List Bytes) → Contains (x ∷ xs) y → (x ≡ y) ⊎ Contains xs y
 one_of x y xs h = by_place h.0 h.1 h.2
   where
     by_place : (k : ℕ) → k < length (x ∷ xs) → slice_index_or (x ∷ xs) k y ≡ y → (x ≡ y) ⊎ Contains xs y

@@ -3,3 +3,4 @@ pub mod Breaks
 pub mod Destinations
 pub mod Literals
 pub mod SourceNames
+pub mod Sources

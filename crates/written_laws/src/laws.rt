@@ -2,6 +2,7 @@ ghost use Rattle.std.specs.Prelude.{◌≡◌, true, false};
 ghost use Rattle.c_lang.specs.Names.{Bytes, is_reserved};
 ghost use Rattle.c_lang.specs.declared.unit.Unit.{Unit};
 ghost use Rattle.c_lang.specs.declared.program.Program.{Program};
+ghost use Rattle.c_lang.specs.Positions.{ProgramHasPositions};
 ghost use Rattle.c_grammar.specs.Written.{IsWritten};
 ghost use Rattle.c_types.specs.Kept.{TypedProgram, IsKept};
 ghost use Rattle.c_types.specs.Types.{Types};
@@ -9,6 +10,7 @@ ghost use Rattle.written_laws.specs.Breaks.{BreaksStandInLoops};
 ghost use Rattle.written_laws.specs.Destinations.{ResultsGoToLocals, ResultsGoToNoGlobals};
 ghost use Rattle.written_laws.specs.Literals.{LiteralsAreInts};
 ghost use Rattle.written_laws.specs.SourceNames.{IsName, IsReservedHere, NamesAreWords, begins_with, dollar};
+ghost use Rattle.written_laws.specs.Sources.{IsSource};
 
 /// In a program that is written in a unit each `break` stands inside a loop.
 pub fn breaks_stand_in_loops()
@@ -66,4 +68,15 @@ pub fn typed_results_go_to_no_globals()
 /// value from -2147483647 to 2147483647.
 pub fn typed_literals_are_ints()
     ensures { (kept : TypedProgram) → IsKept kept → LiteralsAreInts kept.program }
+{}
+
+/// In a program that is written in a unit of sources each position can be printed: `#line` can give
+/// it.
+pub fn positions_can_be_printed()
+    ensures { (unit : Unit) (program : Program) → IsSource unit → IsWritten unit program → ProgramHasPositions program }
+{}
+
+/// So can each position of a typed program of a unit of sources, in its resolved form.
+pub fn typed_positions_can_be_printed()
+    ensures { (kept : TypedProgram) → IsSource kept.unit → IsKept kept → ProgramHasPositions kept.program }
 {}

@@ -1,0 +1,130 @@
+-- The merged program of a world fits, and so it can be printed.
+use Rattle.std.specs.Prelude.{◌≡◌, ◌≤◌, Bool, true, false, List, [], ◌∷◌, map, All, Some, None}
+use Rattle.std.proofs.Common.{refl, sym, ap, subst, arith}
+use Rattle.std.proofs.lemmas.List.Elements.{All-nil, All-cons, All-head, All-tail}
+use Rattle.c_lang.specs.Limits.{cell_limit}
+use Rattle.c_lang.specs.declared.unit.Unit.{Unit}
+use Rattle.c_lang.specs.declared.unit.Unit.TheVariants.{Old, New, Xform, Client, Merge, Hints, Certs}
+use Rattle.c_lang.specs.declared.program.Func.{Func}
+use Rattle.c_lang.specs.declared.program.Program.{Program}
+use Rattle.c_types.specs.Kept.{TypedProgram, IsKept}
+use Rattle.c_types.specs.Names.{Entries}
+use Rattle.c_types.specs.Plain.{PlainProgram, plain_func, built_func, plain}
+use Rattle.c_types.specs.Programs.{with_func, with_globals, outside_of, resolved_program}
+use Rattle.c_types.specs.Types.{AreTypedFuncs}
+use Rattle.c_types.proofs.PlainLaws.{plain_resolved_program}
+use Rattle.version_names.specs.Parts.{part_of}
+use Rattle.state_xform.specs.Kept.{IsTransformerOf}
+use Rattle.state_xform.specs.Refusals.{resolved_transformer}
+use Rattle.state_xform.specs.Transformers.{AreOwnFuncs}
+use Rattle.state_xform.specs.Visible.{Parts, visible}
+use Rattle.update_semantics.specs.UpdatingRun as run
+use Rattle.update_semantics.specs.UpdatingRun.{Specification}
+use Rattle.update_semantics.specs.Worlds.{World, IsWorld, world_of}
+use Rattle.merged_program.specs.Programs.{merged_funcs, merged_program}
+use Rattle.merge_printer.specs.Printable.{IsPrintable}
+use Rattle.merge_printer.proofs.PlainLaw.{all_built}
+use Rattle.merge_printer.proofs.PrintLaw.{both}
+use Rattle.merge_printer.proofs.ProgramLaw.{ProgramFits}
+use Rattle.written_laws.specs.Sources.{IsSource}
+use Rattle.written_laws.proofs.ProgramFits.{FuncFits, written_fits}
+use Rattle.merged_texts.proofs.FunctionFits.{IsGoodFunc, good_source, good_funcs, HasGoodFuncs, funcs_read, protos_fit, read_back}
+use Rattle.merged_texts.proofs.GlobalFits.{IsGoodGlobal, all_cells, typed_cells, good_globals, HasGoodGlobals, globals_fit}
+use Rattle.merged_texts.proofs.NameFits.{InWord}
+use Rattle.merged_texts.proofs.Printing.{prints}
+use Rattle.merged_texts.proofs.TransformerForms.{plain_transformer}
+use Rattle.merged_texts.proofs.WorldParts.{old_source, new_source, world_low, world_positions}
+
+-- ---- what fits
+
+program_fits : (W : run.World) → HasGoodGlobals W → HasGoodFuncs W → ProgramFits (plain (merged_program W))
+program_fits W globals funcs =
+    let fs = merged_funcs W in
+    let read = funcs_read W funcs in
+    record {
+      early = refl;
+      globals = globals_fit W globals;
+      protos = protos_fit fs read;
+      funcs = both (map built_func (map plain_func fs)) (read_back fs read) (all_built fs);
+    }
+
+-- ---- the functions of a part
+
+typed_good : (u : Unit) (outside : Entries) (xform : Bool) (seen : Entries) (fs : List Func) → All (FuncFits u) fs → AreTypedFuncs outside xform seen fs → All IsGoodFunc fs
+typed_good u outside xform seen [] h typed = All-nil IsGoodFunc
+typed_good u outside xform seen (f ∷ fs) h typed =
+    All-cons IsGoodFunc f fs (good_source u outside xform f (All-head (FuncFits u) f fs h) typed.1) (typed_good u outside xform (with_func seen f) fs (All-tail (FuncFits u) f fs h) typed.2)
+
+own_good : (u : Unit) (parts : Parts) (outside seen : Entries) (fs : List Func) → All (FuncFits u) fs → AreOwnFuncs parts outside seen fs → All IsGoodFunc fs
+own_good u parts outside seen [] h typed = All-nil IsGoodFunc
+own_good u parts outside seen (f ∷ fs) h typed =
+    All-cons IsGoodFunc f fs (good_source u outside true f (All-head (FuncFits u) f fs h) typed.1) (own_good u parts outside (with_func seen f) fs (All-tail (FuncFits u) f fs h) typed.2)
+
+source_cells : (u : Unit) → IsSource u → cell_limit u ≡ 1048576
+source_cells Old h = refl
+source_cells New h = refl
+source_cells Xform h = refl
+source_cells Client h = refl
+source_cells Merge h = absurd h
+source_cells Hints h = absurd h
+source_cells Certs h = absurd h
+
+-- a version
+module _ (kept : TypedProgram) (source : IsSource kept.unit) (h : IsKept kept) where
+  of_resolved : (Q : Program → Type 0) → Q (resolved_program h.source) → Q kept.program
+  of_resolved Q q = subst Q (sym h.resolved) q
+
+  version_funcs : All IsGoodFunc kept.program.funcs
+  version_funcs =
+      let p = h.source in
+      let good = typed_good kept.unit (outside_of p.globals p.funcs) false (with_globals [] p.globals) p.funcs (written_fits kept.unit p h.written).funcs h.typed.funcs in
+      of_resolved (λ P. All IsGoodFunc P.funcs) (good_funcs (resolved_program p).funcs p.funcs (ap (λ (Q : PlainProgram). Q.funcs) (plain_resolved_program kept.unit p h.typed)) good)
+
+  version_globals : All IsGoodGlobal kept.program.globals
+  version_globals =
+      let p = h.source in
+      of_resolved (λ P. All IsGoodGlobal P.globals) (good_globals kept.unit (outside_of p.globals p.funcs) [] (cell_limit kept.unit) p.globals (written_fits kept.unit p h.written).globals h.typed.globals)
+
+  version_cells : all_cells kept.program.globals ≤ 1048576
+  version_cells =
+      let p = h.source in
+      let cells = typed_cells (outside_of p.globals p.funcs) [] (cell_limit kept.unit) p.globals h.typed.globals in
+      of_resolved (λ P. all_cells P.globals ≤ 1048576) (omega (arith, cells, source_cells kept.unit source))
+
+-- a transformer
+transformer_funcs : (first second kept : Program) → IsTransformerOf first second kept → All IsGoodFunc kept.funcs
+transformer_funcs first second kept h =
+    let p = h.source in
+    let parts = part_of first second in
+    let good = own_good Xform parts (visible parts first second p) [] p.funcs (written_fits Xform p h.written).funcs h.transformer.funcs in
+    subst (λ (P : Program). All IsGoodFunc P.funcs) (sym h.resolved)
+    (good_funcs (resolved_transformer parts first second p).funcs p.funcs (ap (λ (Q : PlainProgram). Q.funcs) (plain_transformer first second p h.transformer)) good)
+
+-- ---- worlds
+
+no_entry : (c : Specification) → None ≡ Some c → InWord c.entry
+no_entry c is = absurd cc
+
+module _ (w : World) (h : IsWorld w) where
+  has_globals : HasGoodGlobals (world_of w)
+  has_globals = record {
+    first = version_globals w.old_prog (old_source w h) h.old_kept;
+    first_cells = version_cells w.old_prog (old_source w h) h.old_kept;
+    second = version_globals w.new_prog (new_source w h) h.new_kept;
+    second_cells = version_cells w.new_prog (new_source w h) h.new_kept;
+  }
+
+  has_funcs : HasGoodFuncs (world_of w)
+  has_funcs = record {
+    first = version_funcs w.old_prog (old_source w h) h.old_kept;
+    second = version_funcs w.new_prog (new_source w h) h.new_kept;
+    xform = transformer_funcs w.old_prog.program w.new_prog.program w.xform h.transformer;
+    client = All-nil IsGoodFunc;
+    entry = no_entry;
+  }
+
+  pub world_fits : ProgramFits (plain (merged_program (world_of w)))
+  world_fits = program_fits (world_of w) has_globals has_funcs
+
+  pub world_prints : IsPrintable (plain (merged_program (world_of w)))
+  world_prints = prints (merged_program (world_of w)) world_fits (world_positions w h) (world_low w h)

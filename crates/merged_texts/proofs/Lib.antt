@@ -1,0 +1,15 @@
+pub mod ExpressionHeights
+pub mod StatementHeights
+pub mod WrittenHeights
+pub mod PlainForms
+pub mod MergedHeights
+pub mod MergedPositions
+pub mod Printing
+pub mod TransformerForms
+pub mod WorldParts
+pub mod NameFits
+pub mod SourceStatements
+pub mod StatementFits
+pub mod FunctionFits
+pub mod GlobalFits
+pub mod Fits
