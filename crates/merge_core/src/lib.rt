@@ -1,6 +1,6 @@
 //! The merge of two versions of a program and a transformer into one ordinary program.
 #![tactic(auto)]
 
-mod merge;
+mod merging;
 
-pub use merge::merge;
+pub use merging::merge;

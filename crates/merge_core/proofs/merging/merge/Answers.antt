@@ -9,7 +9,7 @@ use Rattle.plain_run.specs.PlainRun.{Obs}
 use Rattle.update_semantics.specs.UpdatingRun.{ObsU}
 use Rattle.update_semantics.specs.Worlds.{world_of}
 use Rattle.merge_core.proofs.MergeLaws.{same_typed, kept, checked}
-use Rattle.merge_core.proofs.merge.merge.Goals as goal
+use Rattle.merge_core.proofs.merging.merge.Goals as goal
 
 pub new-requires : goal.new-requires
 new-requires c =
