@@ -10,4 +10,4 @@ pub returns-in-Some-2 : goal.returns-in-Some-2
 returns-in-Some-2 c =
     sym (merge-is c.args.words.now (seen_update_files c.in-Some.files) (seen_points c.in-Some-2.points)
     (sym c.are_merge_words.ensures ∙ c.if-not-are_merge_words.false) (sym (rw c.in-Some.is at c.in_ok-files.ensures))
-    (sym (rw c.in-Some-2.is at c.in_ok-points_given.ensures)))
+    (sym (rw c.in-Some-2.is at c.in_ok-points.ensures)))
