@@ -4,3 +4,8 @@ pub mod ResolvedTyping
 pub mod SameScopes
 pub mod ResolvedSources
 pub mod PlainTyping
+pub mod EntryLaws
+pub mod Carrying
+pub mod CarriedScopes
+pub mod AskingTyped
+pub mod CarriedStatements
