@@ -91,7 +91,7 @@ module _ (ρ κ : Bytes → Bytes) (naming : IsNaming ρ) where
     free_is None o' h e = h
     free_is (Some m) o' h e = absurd cc
 
-    fresh_carried : (b : Block) (k : Kind) (x : Bytes) → IsFresh b s k x → IsFresh b t k (ρ x)
+    pub fresh_carried : (b : Block) (k : Kind) (x : Bytes) → IsFresh b s k x → IsFresh b t k (ρ x)
     fresh_carried b k x h = record {
       new = ap (λ (es : Entries). stands_from b.base es (ρ x)) c.locals ∙ ap (at_least b.base) (same_position ρ naming.same s.locals x) ∙ h.new;
       alike = ap (λ (o : Option Means). is_another o k) (c.told.same x) ∙ h.alike;
@@ -114,7 +114,7 @@ module _ (ρ κ : Bytes → Bytes) (naming : IsNaming ρ) where
 
   -- ---- declarations
 
-  local_added : (es : Entries) (x : Bytes) (k : Kind) → ((y : Bytes) → IsLocal (found es y)) → (y : Bytes) → IsLocal (found (added es x (Cell k)) y)
+  pub local_added : (es : Entries) (x : Bytes) (k : Kind) → ((y : Bytes) → IsLocal (found es y)) → (y : Bytes) → IsLocal (found (added es x (Cell k)) y)
   local_added es x k h y = subst IsLocal (sym (found_added es y x (Cell k))) (both (found es y) (bytes_eq y x) (h y))
     where
       both : (o : Option Means) (b : Bool) → IsLocal o → IsLocal (option_or o (cond b (Some (Cell k)) None))

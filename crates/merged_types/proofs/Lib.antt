@@ -9,3 +9,6 @@ pub mod Carrying
 pub mod CarriedScopes
 pub mod AskingTyped
 pub mod CarriedStatements
+pub mod SameFlow
+pub mod ResolvedFuncs
+pub mod PlainPrograms

@@ -156,7 +156,7 @@ mutual
   plain_declares (force p) = record { dest = refl; told = λ e. refl }
   plain_declares (pick p a b) = record { dest = refl; told = λ e. refl }
 
-  plain_declare : (ts : Statements) → DeclareSame (plain_statements ts) ts
+  pub plain_declare : (ts : Statements) → DeclareSame (plain_statements ts) ts
   plain_declare none = declare_nothing
   plain_declare (more t ts) = declare_more (plain_statement t) t (plain_statements ts) ts (plain_declares t) (plain_declare ts)
 

@@ -145,7 +145,7 @@ mutual
   tree_declares s (force p) = record { dest = refl; told = λ e. refl }
   tree_declares s (pick p a b) = record { dest = refl; told = λ e. refl }
 
-  trees_declare : (s : Scope) (ts : Statements) → DeclareSame (list_tree s ts) ts
+  pub trees_declare : (s : Scope) (ts : Statements) → DeclareSame (list_tree s ts) ts
   trees_declare s none = declare_nothing
   trees_declare s (more t ts) =
       declare_more (statement_tree s t) t (list_tree (scope_after s t) ts) ts (tree_declares s t) (trees_declare (scope_after s t) ts)
