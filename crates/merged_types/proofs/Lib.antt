@@ -12,3 +12,6 @@ pub mod CarriedStatements
 pub mod SameFlow
 pub mod ResolvedFuncs
 pub mod PlainPrograms
+pub mod MergedNames
+pub mod Lookups
+pub mod MergedTables
