@@ -15,3 +15,4 @@ pub mod PlainPrograms
 pub mod MergedNames
 pub mod Lookups
 pub mod MergedTables
+pub mod VersionNames
