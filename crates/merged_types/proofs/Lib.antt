@@ -16,3 +16,4 @@ pub mod MergedNames
 pub mod Lookups
 pub mod MergedTables
 pub mod VersionNames
+pub mod UpdateNames
