@@ -17,3 +17,4 @@ pub mod Lookups
 pub mod MergedTables
 pub mod VersionNames
 pub mod UpdateNames
+pub mod CallsTyped
