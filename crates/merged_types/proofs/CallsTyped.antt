@@ -173,3 +173,27 @@ module _ (outside : Entries) (gives : Bool) (free : (n : ℕ) → n < 2 ^ 64 →
               (sym (scope_with [] (parameters_from 1 ks)))
               (wrapper_body d.pos ks (merged_name prefix.New d.name) (merged_name prefix.Old d.name) v w few new_is old_is);
         }
+
+-- ---- the function with which a run begins
+
+module _ (outside : Entries) (result : found outside result_name ≡ None) where
+  pub starting_resolved : (name : Bytes) (f : Func) (v : Option ℕ) → f.gives ≡ true → found outside name ≡ Some (Code [] true v None) → IsResolvedFunc outside false (starting name f)
+  starting_resolved name f v gives is =
+      let s = scope_of outside false true in
+      record {
+        params = tt;
+        few = omega arith;
+        narrow = tt;
+        tree = hand f.pos true name [];
+        built = ap (λ (g : Bool). stmts_of (hand f.pos g name []) ++ (if g then [] else stmt_of (return_zero f.pos) ∷ [])) gives;
+        gives = λ g m. absurd cc;
+        body = handed s result refl refl refl refl f.pos name [] v [] (λ u out loc. tt) true is refl;
+      }
+
+-- with what the merged program has
+pub wrapper_typed : (outside : Entries) → ((n : ℕ) → n < 2 ^ 64 → found outside (parameter_name n) ≡ None) → found outside now_name ≡ Some (Cell Int) → found outside result_name ≡ None
+    → (d : Func) (v w : Option ℕ) → length (kinds_of d.params) ≤ parameter_limit → AreNarrow (kinds_of d.params)
+    → found outside (merged_name prefix.New d.name) ≡ Some (Code (kinds_of d.params) d.gives v None)
+    → found outside (merged_name prefix.Old d.name) ≡ Some (Code (kinds_of d.params) d.gives w None)
+    → IsResolvedFunc outside false (wrapper d)
+wrapper_typed outside free now result d v w few narrow new_is old_is = wrapper_resolved outside d.gives free now result d refl v w few narrow new_is old_is

@@ -85,7 +85,7 @@ array_meant (Some Array) o' h k = ap meant h
 array_meant (Some (Code params gives value denied)) o' h k = absurd k
 array_meant (Some (Refused n)) o' h k = absurd k
 
-value_meant : (k : Kind) (o o' : Option Means) → IsKeptCode o o' → IsFunction k (meant o)
+pub value_meant : (k : Kind) (o o' : Option Means) → IsKeptCode o o' → IsFunction k (meant o)
     → IsFunction k (meant o') × (kind_of_name (meant o') ≡ kind_of_name (meant o))
 value_meant k None o' h f = absurd f
 value_meant k (Some (Cell j)) o' h f = absurd f

@@ -18,3 +18,4 @@ pub mod MergedTables
 pub mod VersionNames
 pub mod UpdateNames
 pub mod CallsTyped
+pub mod NewNames
