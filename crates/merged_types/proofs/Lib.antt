@@ -19,3 +19,5 @@ pub mod VersionNames
 pub mod UpdateNames
 pub mod CallsTyped
 pub mod NewNames
+pub mod MergedGlobals
+pub mod MergedTyped

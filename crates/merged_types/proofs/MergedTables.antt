@@ -137,7 +137,7 @@ module _ (W : World) where
   -- ---- globals
 
   -- the globals of a version, under their merged names
-  abbrev version_globals : origin.Provenance → List GlobalVar → List GlobalVar
+  abbrev pub version_globals : origin.Provenance → List GlobalVar → List GlobalVar
   version_globals o gs = map (merged_global W o) gs
 
   same_at : (h : Bytes → Home) (y x : Bytes) (k : Home) → (same_home (h y) k && bytes_eq y x) ≡ (same_home (h x) k && bytes_eq y x)
@@ -150,10 +150,10 @@ module _ (W : World) where
       never false = refl
 
   -- those of one version
-  abbrev globals_in : version.Version → origin.Provenance → List GlobalVar → Linked → Option GlobalVar
+  abbrev pub globals_in : version.Version → origin.Provenance → List GlobalVar → Linked → Option GlobalVar
   globals_in v o gs k = if same_home (cell_part W.first W.second v k.1) k.0 then option_map (merged_global W o) (global_named gs k.1) else None
 
-  globals-is : (v : version.Version) (o : origin.Provenance) → ((x : Bytes) → variable_name W o x ≡ cell_name (cell_part W.first W.second v x, x))
+  pub globals-is : (v : version.Version) (o : origin.Provenance) → ((x : Bytes) → variable_name W o x ≡ cell_name (cell_part W.first W.second v x, x))
       → (gs : List GlobalVar) (k : Linked) → global_named (version_globals o gs) (cell_name k) ≡ globals_in v o gs k
   globals-is v o names gs k =
       global_named-is (version_globals o gs) (cell_name k)

@@ -278,3 +278,22 @@ main_named (f ∷ fs) h = by_bool (bytes_eq f.name (codes "main"))
     (λ e. ap (λ (b : Bool). is_some (if b then Some f else func_named fs (codes "main"))) e)
     (λ e. ap (λ (b : Bool). is_some (if b then Some f else func_named fs (codes "main"))) e
     ∙ main_named fs (or_right (is_start f) (has_main fs) h (ap (λ (a : Bool). a && f.gives && is_empty f.params) e)))
+
+-- what the two opaque facts say
+pub starts : (f : Func) → IsStartIfMain f → is_main f.name ≡ true → (f.gives ≡ true) × (f.params ≡ [])
+unfolding IsStartIfMain
+starts f h = h
+
+pub owned : (seen : Entries) (fs : List Func) (f : Func) → IsOwn seen fs f → (found seen f.name ≡ None) × (func_named fs f.name ≡ Some f)
+unfolding IsOwn
+owned seen fs f h = h
+
+some_is_same : (f g : Func) → Some f ≡ Some g → f ≡ g
+some_is_same f g e = cc
+
+pub named_main : (fs : List Func) (f : Func) → func_named fs (codes "main") ≡ Some f → Each IsStartIfMain fs → (f.gives ≡ true) × (f.params ≡ [])
+named_main [] f e h = absurd cc
+named_main (g ∷ gs) f e h = by_bool (is_main g.name)
+    (λ m. let same : g ≡ f = some_is_same g f (sym (ap (λ (b : Bool). if b then Some g else func_named gs (codes "main")) m) ∙ e) in
+    subst (λ (d : Func). (d.gives ≡ true) × (d.params ≡ [])) same (starts g h.0 m))
+    (λ m. named_main gs f (sym (ap (λ (b : Bool). if b then Some g else func_named gs (codes "main")) m) ∙ e) h.1)

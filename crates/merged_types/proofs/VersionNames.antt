@@ -171,13 +171,16 @@ module _ (W : World) where
   unlinked_in version.Old shared None make p h = ap (option_map make) (h refl)
   unlinked_in version.New shared None make p h = ap (option_map make) (h refl)
 
+  pub nowhere_cell : (x : Bytes) → global_named (merged_globals W) (kept_name x) ≡ None
+  nowhere_cell x =
+      cells-is W (home.Unlinked, x) ∙ ap₂ or_else
+      (unlinked_in version.Old (is_shared_cell W.first W.second x) (global_named W.first.globals x) (merged_global W origin.Old) (global_named W.first.globals x) (λ h. h))
+      (unlinked_in version.New (is_shared_cell W.first W.second x) (global_named W.second.globals x) (merged_global W origin.New) (global_named (own_globals W) x) (own_unnamed W x))
+
   pub nowhere : (x : Bytes) → bytes_eq (codes "main") x ≡ false → found merged_outside (kept_name x) ≡ None
   nowhere x apart =
       found_outside (merged_globals W) (merged_funcs W) (kept_name x)
-      ∙ ap₂ either_means
-      (cells-is W (home.Unlinked, x) ∙ ap₂ or_else
-      (unlinked_in version.Old (is_shared_cell W.first W.second x) (global_named W.first.globals x) (merged_global W origin.Old) (global_named W.first.globals x) (λ h. h))
-      (unlinked_in version.New (is_shared_cell W.first W.second x) (global_named W.second.globals x) (merged_global W origin.New) (global_named (own_globals W) x) (own_unnamed W x)))
+      ∙ ap₂ either_means (nowhere_cell x)
       (table-is W (home.Unlinked, x) ∙ ap (λ (b : Bool). if b then Some (merged_main W W.client) else None) apart)
 
   -- ---- functions
