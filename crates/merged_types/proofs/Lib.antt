@@ -21,3 +21,5 @@ pub mod CallsTyped
 pub mod NewNames
 pub mod MergedGlobals
 pub mod MergedTyped
+pub mod SourcePrograms
+pub mod LinkedNames
