@@ -23,3 +23,4 @@ pub mod MergedGlobals
 pub mod MergedTyped
 pub mod SourcePrograms
 pub mod LinkedNames
+pub mod VisibleNames

@@ -297,3 +297,25 @@ named_main (g ∷ gs) f e h = by_bool (is_main g.name)
     (λ m. let same : g ≡ f = some_is_same g f (sym (ap (λ (b : Bool). if b then Some g else func_named gs (codes "main")) m) ∙ e) in
     subst (λ (d : Func). (d.gives ≡ true) × (d.params ≡ [])) same (starts g h.0 m))
     (λ m. named_main gs f (sym (ap (λ (b : Bool). if b then Some g else func_named gs (codes "main")) m) ∙ e) h.1)
+
+-- ---- globals by their names
+
+pub IsOwnGlobal : List GlobalVar → GlobalVar → Type 0
+IsOwnGlobal gs g = global_named gs g.name ≡ Some g
+
+pub each_own_global : (seen : Entries) (gs : List GlobalVar) → AreNewGlobals seen gs → Each (λ (g : GlobalVar). (found seen g.name ≡ None) × IsOwnGlobal gs g) gs
+unfolding IsOwnGlobal
+each_own_global seen [] h = tt
+each_own_global seen (f ∷ fs) h =
+    ((h.0, ap (λ (b : Bool). if b then Some f else global_named fs f.name) (itself f.name))
+    , behind fs (each_own_global (with_global seen f) fs h.1))
+  where
+    behind : (gs : List GlobalVar) → Each (λ (g : GlobalVar). (found (with_global seen f) g.name ≡ None) × IsOwnGlobal fs g) gs → Each (λ (g : GlobalVar). (found seen g.name ≡ None) × IsOwnGlobal (f ∷ fs) g) gs
+    behind [] k = tt
+    behind (g ∷ gs) k =
+        let parts = added_none seen f.name (means_of_global f) g.name k.0.0 in
+        ((parts.0, ap (λ (b : Bool). if b then Some f else global_named fs g.name) (bytes_eq-sym f.name g.name ∙ parts.1) ∙ k.0.1), behind gs k.1)
+
+pub owned_global : (gs : List GlobalVar) (g : GlobalVar) → IsOwnGlobal gs g → global_named gs g.name ≡ Some g
+unfolding IsOwnGlobal
+owned_global gs g h = h
