@@ -24,3 +24,4 @@ pub mod MergedTyped
 pub mod SourcePrograms
 pub mod LinkedNames
 pub mod VisibleNames
+pub mod TransformerNames

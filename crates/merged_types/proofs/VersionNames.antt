@@ -42,7 +42,7 @@ kept_some Array o e = e
 kept_some (Code params gives value denied) o e = tt
 kept_some (Refused n) o e = tt
 
-shape_no_code : (s : Shape) (o : Option Means) → IsKeptCode (Some (means_of_shape s)) o
+pub shape_no_code : (s : Shape) (o : Option Means) → IsKeptCode (Some (means_of_shape s)) o
 shape_no_code (shape.Int z) o = tt
 shape_no_code (shape.Arr zs) o = tt
 shape_no_code (shape.Fp n f) o = tt
@@ -191,7 +191,7 @@ module _ (W : World) where
       found_outside (merged_globals W) (merged_funcs W) (code_name k)
       ∙ ap₂ either_means none (table-is W k ∙ e) ∙ ap Some h
 
-  kinds_merged : (o : origin.Provenance) (ps : List (Kind × Bytes)) → kinds_of (map (merged_param W o) ps) ≡ kinds_of ps
+  pub kinds_merged : (o : origin.Provenance) (ps : List (Kind × Bytes)) → kinds_of (map (merged_param W o) ps) ≡ kinds_of ps
   kinds_merged o [] = refl
   kinds_merged o (p ∷ ps) = ap (λ (ks : List Kind). p.0 ∷ ks) (kinds_merged o ps)
 
