@@ -25,3 +25,4 @@ pub mod SourcePrograms
 pub mod LinkedNames
 pub mod VisibleNames
 pub mod TransformerNames
+pub mod WorldTyped

@@ -5,7 +5,7 @@ mod Scopes
 mod StatementFits
 mod ProgramFits
 mod TypedLocals
-mod WrittenLaws
+pub mod WrittenLaws
 mod NameLaws
 mod PlainWalks
 mod KeptLaws
