@@ -1,17 +1,15 @@
 -- What a point becomes is typed and in resolved form wherever the flag, the transformer and what a point declares
 -- have their meaning.
-use Rattle.std.proofs.Common.{◌≡◌, ℕ, pos, cond, Bool, true, false, ◌&&◌, List, [], length, Option, Some, None, refl, sym, ap, ap₂, ◌∙◌, subst, codes}
-use Rattle.std.specs.Prelude.{⊤}
+use Rattle.std.proofs.Common.{◌≡◌, ℕ, Bool, false, ◌&&◌, [], length, Option, Some, None, refl, sym, ap, ap₂, ◌∙◌, subst, codes}
 use Rattle.std.specs.Option.{option_or}
 use Rattle.c_lang.specs.Names.{Bytes}
-use Rattle.c_lang.specs.Trees.{Expression, literal, variable, binary, Statement, Statements, choice, if_else, none, more}
-use Rattle.c_lang.specs.declared.expr.Op.TheVariants.{Eq, Ne}
+use Rattle.c_lang.specs.Trees.{Statements, choice, if_else, none, more}
 use Rattle.c_lang.specs.declared.unit.Pos.{Pos}
-use Rattle.c_lang.specs.declared.stmt.Dest.TheVariants.{Nowhere, Into, Fresh}
+use Rattle.c_lang.specs.declared.stmt.Dest.TheVariants.{Nowhere, Fresh}
 use Rattle.c_lang.specs.declared.stmt.Kind.TheVariants.{Int}
-use Rattle.c_types.specs.Names.{Means, Cell, Code, Names, Entries, found, added, meant}
+use Rattle.c_types.specs.Names.{Means, Cell, Code, Names, found, meant}
 use Rattle.c_types.specs.Scopes.{Scope, Block, in_scope, names_of, is_another, names_version}
-use Rattle.c_types.specs.Expressions.{kind_of, kind_of_name, or_int}
+use Rattle.c_types.specs.Expressions.{kind_of_name, or_int}
 use Rattle.c_types.specs.Scopes.{kind_of_target}
 use Rattle.c_types.specs.Statements.{scope_after, block_in, entered}
 use Rattle.c_types.specs.Typing.{IsCell, IsFresh}
@@ -19,7 +17,7 @@ use Rattle.version_names.specs.Merged.{merged_name}
 use Rattle.version_names.specs.declared.part.Origin.TheVariants.{Xform}
 use Rattle.merged_program.specs.Names.{now_name, choice_name}
 use Rattle.merged_program.specs.Statements.{is_zero, is_set, swap, asking}
-use Rattle.merged_types.proofs.EntryLaws.{one, found_added, absent_from, added_behind, itself}
+use Rattle.merged_types.proofs.EntryLaws.{one, found_added, absent_from, added_behind}
 use Rattle.merged_types.proofs.Carrying.{some_is}
 use Rattle.merged_types.proofs.CarriedScopes.{HasUpdate}
 use Rattle.merged_types.proofs.ResolvedTyping.{IsInt, IsVariable, IsResolved, IsResolvedCall, IsResolvedStatement, AreResolved}

@@ -1,32 +1,29 @@
 -- The functions of a merged program that no source has are typed and in resolved form.
-use Rattle.std.proofs.Common.{◌≡◌, ◌≤◌, ◌<◌, ◌+◌, ◌^◌, ℕ, pos, cond, Bool, true, false, not, ◌&&◌, List, [], ◌∷◌, ◌++◌, map, length, Option, Some, None, refl, sym, ap, ap₂, ◌∙◌, subst, arith, codes}
-use Rattle.std.specs.Prelude.{⊤, if◌then◌else◌}
+use Rattle.std.proofs.Common.{◌≡◌, ◌≤◌, ◌<◌, ◌+◌, ◌^◌, ℕ, cond, Bool, true, false, ◌&&◌, List, [], ◌∷◌, ◌++◌, map, length, Option, Some, None, refl, sym, ap, ap₂, ◌∙◌, subst, arith}
+use Rattle.std.specs.Prelude.{if◌then◌else◌}
 use Rattle.std.specs.Option.{option_or}
-use Rattle.std.specs.Str.{bytes_eq}
 use Rattle.c_lang.specs.Limits.{parameter_limit}
 use Rattle.c_lang.specs.Names.{Bytes}
-use Rattle.c_lang.specs.Trees.{Expression, variable, Statement, Statements, call, return_with, if_else, none, more, stmt_of, stmts_of}
+use Rattle.c_lang.specs.Trees.{Expression, variable, call, none, more, stmt_of, stmts_of}
 use Rattle.c_lang.specs.declared.unit.Pos.{Pos}
-use Rattle.c_lang.specs.declared.stmt.Dest.{Dest}
-use Rattle.c_lang.specs.declared.stmt.Dest.TheVariants.{Nowhere, Into, Fresh}
+use Rattle.c_lang.specs.declared.stmt.Dest.TheVariants.{Nowhere, Fresh}
 use Rattle.c_lang.specs.declared.stmt.Kind.{Kind}
-use Rattle.c_lang.specs.declared.stmt.Kind.TheVariants.{Int, Fp}
-use Rattle.c_lang.specs.declared.stmt.Stmt.{Stmt}
+use Rattle.c_lang.specs.declared.stmt.Kind.TheVariants.{Int}
 use Rattle.c_lang.specs.declared.program.Func.{Func}
 use Rattle.c_types.specs.Names.{Means, Cell, Code, Names, Entries, found, added, meant}
-use Rattle.c_types.specs.Scopes.{Scope, Block, in_scope, names_of, is_another, names_version}
+use Rattle.c_types.specs.Scopes.{Scope, names_of, is_another, names_version}
 use Rattle.c_types.specs.Endings.{can_end}
 use Rattle.c_types.specs.Statements.{scope_after, block_in, entered, after_block}
-use Rattle.c_types.specs.Functions.{kinds_of, scope_of, with_param, with_params, params_block, is_main}
+use Rattle.c_types.specs.Functions.{kinds_of, scope_of, with_params}
 use Rattle.c_types.specs.Typing.{IsFresh}
 use Rattle.c_types.specs.Types.{AreNarrow, AreParams}
 use Rattle.version_names.specs.Merged.{merged_name}
 use Rattle.version_names.specs.declared.part.Origin.TheVariants as prefix
 use Rattle.merged_program.specs.Names.{now_name, result_name, parameter_name}
-use Rattle.merged_program.specs.Statements.{is_set, hand, wrapping, return_zero}
+use Rattle.merged_program.specs.Statements.{hand, wrapping, return_zero}
 use Rattle.merged_program.specs.Programs.{parameters_from, wrapper, starting}
 use Rattle.merged_types.proofs.EntryLaws.{one, found_added, absent_from, added_behind, itself}
-use Rattle.merged_types.proofs.ResolvedTyping.{IsVariable, IsResolvedCall, IsResolvedReturn, AreResolvedArguments, IsResolvedStatement, AreResolved}
+use Rattle.merged_types.proofs.ResolvedTyping.{IsVariable, IsResolvedCall, IsResolvedReturn, AreResolvedArguments, AreResolved}
 use Rattle.merged_types.proofs.AskingTyped.{outside_means, set_test}
 use Rattle.merged_types.proofs.ResolvedFuncs.{IsResolvedFunc}
 use Rattle.merged_types.proofs.UpdateNames.{parameters_apart}

@@ -1,30 +1,23 @@
 -- Scopes of merged code: the names of the code's scope under other names, and what points declare besides.
-use Rattle.std.proofs.Common.{◌≡◌, ℕ, cond, Bool, true, false, not, ◌&&◌, List, [], ◌∷◌, map, length, Option, Some, None, refl, sym, ap, ap₂, ◌∙◌, subst, codes}
-use Rattle.std.specs.Prelude.{⊤, if◌then◌else◌}
+use Rattle.std.proofs.Common.{◌≡◌, cond, Bool, true, false, ◌&&◌, [], length, Option, Some, None, refl, sym, ap, ap₂, ◌∙◌, subst, codes}
 use Rattle.std.specs.Option.{option_or}
 use Rattle.std.specs.Str.{bytes_eq}
 use Rattle.std.proofs.lemmas.List.{length-map}
 use Rattle.c_lang.specs.Names.{Bytes}
-use Rattle.c_lang.specs.Kinds.{same_kind}
-use Rattle.c_lang.specs.Trees.{Statement, Statements, skip, set, set_element, call, call_by, if_else, while_loop, break_loop, return_with, assert_that, input, output, point, choice, force, pick, none, more}
-use Rattle.c_lang.specs.declared.unit.Pos.{Pos}
 use Rattle.c_lang.specs.declared.stmt.Dest.{Dest}
 use Rattle.c_lang.specs.declared.stmt.Dest.TheVariants.{Nowhere, Into, Fresh}
 use Rattle.c_lang.specs.declared.stmt.Kind.{Kind}
-use Rattle.c_lang.specs.declared.stmt.Kind.TheVariants.{Int, Fp}
-use Rattle.c_types.specs.Names.{Means, Cell, Array, Code, Refused, Names, Entries, found, added, stands_from, stands_before, at_least, less_than}
+use Rattle.c_lang.specs.declared.stmt.Kind.TheVariants.{Int}
+use Rattle.c_types.specs.Names.{Means, Cell, Code, Entries, found, added, stands_from, stands_before, at_least, less_than}
 use Rattle.c_types.specs.Scopes.{Scope, Block, in_scope, names_of, is_another, names_version, with_dest, kind_of_dest, kind_of_target}
-use Rattle.c_types.specs.Statements.{dest_of, with_locals, told_by, told_by_all, scope_after, block_in, entered, after_block}
+use Rattle.c_types.specs.Statements.{block_in}
 use Rattle.c_types.specs.Typing.{IsCell, IsFresh, IsDest, TakesInt, IsUse}
 use Rattle.version_names.specs.Merged.{merged_name}
-use Rattle.version_names.specs.Provenance.{Provenance, may_update}
 use Rattle.version_names.specs.declared.part.Origin.TheVariants.{Xform}
 use Rattle.merged_program.specs.Names.{now_name, choice_name}
 use Rattle.merged_program.specs.Expressions.{renamed_dest}
-use Rattle.merged_program.specs.Statements.{asking, merged_statement, merged_statements}
-use Rattle.merged_types.proofs.EntryLaws.{one, found_added, or_none, renamed_entries, apart_found, renamed_found, renamed_added, same_position}
+use Rattle.merged_types.proofs.EntryLaws.{one, found_added, or_none, renamed_entries, renamed_found, renamed_added, same_position}
 use Rattle.merged_types.proofs.Carrying.{IsKeptCell, IsKeptCode, IsLocal, cell_before, code_before, AreCarried, are_carried}
-use Rattle.merged_types.proofs.ResolvedTyping.{IsResolvedStatement, AreResolved}
 
 -- variables' new names are apart from each other and from what a point declares
 pub record IsNaming (ρ : Bytes → Bytes) : Type 0 where

@@ -1,28 +1,28 @@
 -- Merged statements are typed and in resolved form where the code's own are.
-use Rattle.std.proofs.Common.{◌≡◌, ℕ, Bool, true, false, ◌&&◌, List, [], ◌∷◌, Option, Some, None, refl, sym, ap, ap₂, ◌∙◌, subst}
-use Rattle.std.specs.Prelude.{⊤, if◌then◌else◌}
+use Rattle.std.proofs.Common.{◌≡◌, ℕ, Bool, true, false, ◌&&◌, List, Option, Some, None, refl, sym, ap, ap₂, ◌∙◌, subst}
+use Rattle.std.specs.Prelude.{if◌then◌else◌}
 use Rattle.std.specs.Option.{option_or}
 use Rattle.c_lang.specs.Names.{Bytes}
 use Rattle.c_lang.specs.Trees.{Expression, Statement, Statements, skip, set, set_element, call, call_by, if_else, while_loop, break_loop, return_with, assert_that, input, output, point, choice, force, pick, none, more}
 use Rattle.c_lang.specs.declared.unit.Pos.{Pos}
 use Rattle.c_lang.specs.declared.stmt.Dest.{Dest}
-use Rattle.c_lang.specs.declared.stmt.Dest.TheVariants.{Nowhere, Into, Fresh}
+use Rattle.c_lang.specs.declared.stmt.Dest.TheVariants.{Nowhere}
 use Rattle.c_lang.specs.declared.stmt.Kind.{Kind}
 use Rattle.c_lang.specs.declared.stmt.Kind.TheVariants.{Int, Fp}
-use Rattle.c_types.specs.Names.{Means, Cell, Array, Code, Refused, Names, Entries, found, meant}
-use Rattle.c_types.specs.Scopes.{Scope, Block, in_scope, names_of, is_another, with_dest, kind_of_dest}
+use Rattle.c_types.specs.Names.{Means, Cell, Array, Code, Refused, Entries, found, meant}
+use Rattle.c_types.specs.Scopes.{Scope, Block, in_scope, names_of, with_dest}
 use Rattle.c_types.specs.Expressions.{or_int}
 use Rattle.c_types.specs.Calls.{place_in, ints}
 use Rattle.c_types.specs.Statements.{dest_of, with_locals, told_by, told_by_all, scope_after, block_in, entered, after_block}
-use Rattle.c_types.specs.Typing.{IsArray, IsCell, IsDest, IsUse, IsAnswer}
+use Rattle.c_types.specs.Typing.{IsArray, IsCell, IsDest, IsAnswer}
 use Rattle.version_names.specs.Provenance.{Provenance, may_update}
 use Rattle.merged_program.specs.Names.{choice_name}
 use Rattle.merged_program.specs.Expressions.{renamed_dest, renamed, all_renamed, renamed_option}
 use Rattle.merged_program.specs.Statements.{asking, merged_statement, merged_statements}
 use Rattle.merged_types.proofs.EntryLaws.{renamed_entries, apart_found}
-use Rattle.merged_types.proofs.Carrying.{IsKeptCode, IsKeptCell, IsLocal, AreCarried, kind_carried, expression_carried, arguments_carried}
-use Rattle.merged_types.proofs.CarriedScopes.{IsNaming, HasUpdate, IsOutside, AreTold, IsCarried, cells_carried, codes_carried, names_carried, kind_of_dest_carried, use_carried, dest_carried, block_carried, locals_dest, cells_dest, told_dest, told_choice}
-use Rattle.merged_types.proofs.ResolvedTyping.{IsVariable, IsResolved, AreResolvedArguments, IsResolvedCall, IsResolvedPointerCall, IsResolvedCallBy, IsResolvedReturn, IsResolvedStatement, AreResolved}
+use Rattle.merged_types.proofs.Carrying.{IsKeptCode, kind_carried, expression_carried, arguments_carried}
+use Rattle.merged_types.proofs.CarriedScopes.{IsNaming, HasUpdate, AreTold, IsCarried, codes_carried, names_carried, kind_of_dest_carried, use_carried, dest_carried, block_carried, locals_dest, cells_dest, told_dest, told_choice}
+use Rattle.merged_types.proofs.ResolvedTyping.{IsResolved, AreResolvedArguments, IsResolvedCall, IsResolvedCallBy, IsResolvedReturn, IsResolvedStatement, AreResolved}
 use Rattle.merged_types.proofs.AskingTyped.{asking_resolved}
 
 -- ---- calls and returns, in scopes that correspond

@@ -1,12 +1,12 @@
 -- What names stand for under other names: ρ for variables, κ for functions.
-use Rattle.std.proofs.Common.{◌≡◌, ℕ, zero, suc, ℤ, pos, negsuc, Bool, true, false, List, [], ◌∷◌, map, Option, Some, None, refl, sym, ap, ap₂, ◌∙◌, subst}
+use Rattle.std.proofs.Common.{◌≡◌, ℕ, zero, suc, ℤ, pos, negsuc, List, [], ◌∷◌, Option, Some, None, refl, sym, ap, ap₂, ◌∙◌, subst}
 use Rattle.std.specs.Prelude.{⊤}
 use Rattle.std.specs.Option.{option_or}
 use Rattle.c_lang.specs.Names.{Bytes}
 use Rattle.c_lang.specs.Trees.{Expression, literal, variable, element, function, null, negation, logical_not, binary}
 use Rattle.c_lang.specs.declared.stmt.Kind.{Kind}
-use Rattle.c_lang.specs.declared.stmt.Kind.TheVariants.{Int, Fp}
-use Rattle.c_types.specs.Names.{Means, Cell, Array, Code, Refused, Names, Entries, found, meant}
+use Rattle.c_lang.specs.declared.stmt.Kind.TheVariants.{Int}
+use Rattle.c_types.specs.Names.{Means, Cell, Array, Code, Refused, Names, meant}
 use Rattle.c_types.specs.Expressions.{kind_of, kind_of_name, place_of}
 use Rattle.c_types.specs.Typing.{IsFunction, IsArray, IsCell}
 use Rattle.merged_program.specs.Expressions.{renamed, all_renamed}

@@ -1,16 +1,16 @@
 -- Entries with one more name, and entries under other names.
-use Rattle.std.proofs.Common.{◌≡◌, ◌+◌, ℕ, suc, nat_lt, eqb, cond, Bool, true, false, not, List, [], ◌∷◌, ◌++◌, map, length, Option, Some, None, is_some, refl, sym, ap, ap₂, ◌∙◌, subst, arith}
-use Rattle.std.specs.Prelude.{if◌then◌else◌, ⊤, position}
+use Rattle.std.proofs.Common.{◌≡◌, ◌+◌, ℕ, suc, nat_lt, eqb, cond, Bool, true, false, not, List, [], ◌∷◌, ◌++◌, map, length, Option, Some, None, is_some, refl, sym, ap, ap₂, ◌∙◌, arith}
+use Rattle.std.specs.Prelude.{if◌then◌else◌, position}
 use Rattle.std.specs.Option.{option_or}
 use Rattle.std.specs.List.{position_or_len}
-use Rattle.std.specs.Map.{lookup, keys_of}
+use Rattle.std.specs.Map.{keys_of}
 use Rattle.std.specs.Str.{bytes_eq}
 use Rattle.std.proofs.lemmas.Bool.Decides.{nat_tests}
 use Rattle.std.proofs.lemmas.List.{map-append, length-map}
 use Rattle.std.proofs.lemmas.List.Folds.{position_or_len_push}
 use Rattle.std.proofs.lemmas.Slice.Eq.{bytes_eq-Decides}
 use Rattle.c_lang.specs.Names.{Bytes}
-use Rattle.c_types.specs.Names.{Means, Cell, Array, Code, Refused, Entries, found, added, stands_from, stands_before, at_least, less_than}
+use Rattle.c_types.specs.Names.{Means, Entries, found, added, stands_from, stands_before, at_least, less_than}
 
 -- ---- tests
 

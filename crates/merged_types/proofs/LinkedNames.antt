@@ -1,5 +1,5 @@
 -- What names with and without a version's prefix are linked to.
-use Rattle.std.proofs.Common.{◌≡◌, nat_eq, Bool, true, false, if◌then◌else◌, length, drop, ◌++◌, Option, Some, None, refl, sym, ap, ap₂, ◌∙◌, subst, codes}
+use Rattle.std.proofs.Common.{◌≡◌, nat_eq, Bool, true, false, if◌then◌else◌, drop, Some, None, ap, ap₂, ◌∙◌, codes}
 use Rattle.std.specs.List.{starts_with}
 use Rattle.c_lang.specs.Names.{Bytes, behind}
 use Rattle.version_names.specs.Merged.{merged_name}

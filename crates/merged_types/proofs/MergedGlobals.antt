@@ -1,9 +1,8 @@
 -- The globals of a merged program are typed.
-use Rattle.std.proofs.Common.{◌≡◌, ◌≤◌, ◌+◌, ℕ, Bool, true, false, not, ◌&&◌, List, [], ◌∷◌, ◌++◌, map, Option, Some, None, is_some, refl, sym, ap, ap₂, ◌∙◌, subst, arith, codes}
-use Rattle.std.specs.Prelude.{⊤, if◌then◌else◌}
+use Rattle.std.proofs.Common.{◌≡◌, ◌≤◌, ◌+◌, Bool, true, false, not, List, [], ◌∷◌, ◌++◌, map, Option, Some, None, is_some, refl, ap, ap₂, ◌∙◌, arith}
+use Rattle.std.specs.Prelude.{if◌then◌else◌}
 use Rattle.std.specs.Option.{option_map}
 use Rattle.std.specs.List.{filter}
-use Rattle.std.specs.Str.{bytes_eq}
 use Rattle.c_lang.specs.Limits.{cell_limit}
 use Rattle.c_lang.specs.Names.{Bytes}
 use Rattle.c_lang.specs.Programs.{global_named}
@@ -12,20 +11,18 @@ use Rattle.c_lang.specs.declared.unit.Unit.TheVariants as unit
 use Rattle.c_lang.specs.declared.program.Shape.{Shape}
 use Rattle.c_lang.specs.declared.program.Shape.TheVariants as shape
 use Rattle.c_lang.specs.declared.program.GlobalVar.{GlobalVar}
-use Rattle.c_lang.specs.declared.program.Program.{Program}
-use Rattle.c_types.specs.Names.{Cell, Entries, found, meant}
-use Rattle.c_types.specs.Programs.{with_globals, cells_of, outside_of}
+use Rattle.c_types.specs.Names.{Cell, Entries, found}
+use Rattle.c_types.specs.Programs.{with_globals, cells_of}
 use Rattle.c_types.specs.Types.{IsInitial, IsHeld}
 use Rattle.version_names.specs.Links as links
 use Rattle.version_names.specs.Links.{is_shared_cell, cell_part}
 use Rattle.version_names.specs.Version as version
-use Rattle.version_names.specs.Home.{Home, same_home}
-use Rattle.version_names.specs.Home as home
+use Rattle.version_names.specs.Home.{same_home}
 use Rattle.version_names.specs.Provenance as origin
 use Rattle.update_semantics.specs.UpdatingRun.{World, cell_meaning}
-use Rattle.merged_program.specs.Names.{now_name, cell_name, variable_name, function_name}
+use Rattle.merged_program.specs.Names.{variable_name, function_name}
 use Rattle.merged_program.specs.Programs.{flag, merged_shape, merged_global, is_own_cell, merged_globals}
-use Rattle.merged_types.proofs.Carrying.{IsKeptCode, value_meant}
+use Rattle.merged_types.proofs.Carrying.{value_meant}
 use Rattle.merged_types.proofs.CarriedScopes.{IsOutside}
 use Rattle.merged_types.proofs.MergedNames.{cell_apart-now, merged_naming}
 use Rattle.merged_types.proofs.MergedTables.{globals-is, own_globals}

@@ -13,7 +13,7 @@ use Rattle.version_names.specs.Provenance.{Provenance}
 use Rattle.version_names.specs.Provenance as origin
 use Rattle.version_names.specs.Links.{cell_part}
 use Rattle.update_semantics.specs.UpdatingRun.{World, old_or_new, linked_by_prefix, cell_meaning}
-use Rattle.merged_program.specs.Names.{now_name, choice_name, is_foreign, kept_name, cell_name, code_name, variable_name, function_name}
+use Rattle.merged_program.specs.Names.{now_name, choice_name, is_foreign, kept_name, cell_name, code_name, variable_name}
 use Rattle.merged_types.proofs.CarriedScopes.{IsNaming}
 
 -- ---- tests of names

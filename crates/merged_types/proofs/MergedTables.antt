@@ -1,14 +1,13 @@
 -- The globals and functions of a merged program by their names.
-use Rattle.std.proofs.Common.{◌≡◌, Bool, true, false, not, ◌&&◌, if◌then◌else◌, cond, List, [], ◌∷◌, ◌++◌, map, Option, Some, None, is_some, refl, sym, ap, ap₂, ◌∙◌, subst, codes}
+use Rattle.std.proofs.Common.{◌≡◌, Bool, true, false, not, ◌&&◌, if◌then◌else◌, cond, List, [], ◌∷◌, ◌++◌, map, Option, Some, None, is_some, refl, sym, ap, ap₂, ◌∙◌, codes}
 use Rattle.std.specs.Option.{option_map, option_or}
 use Rattle.std.specs.List.{filter}
 use Rattle.std.specs.Str.{bytes_eq}
 use Rattle.c_lang.specs.Names.{Bytes}
 use Rattle.c_lang.specs.Programs.{global_named, func_named}
-use Rattle.c_lang.specs.declared.stmt.Kind.TheVariants.{Int}
 use Rattle.c_lang.specs.declared.program.GlobalVar.{GlobalVar}
 use Rattle.c_lang.specs.declared.program.Func.{Func}
-use Rattle.c_types.specs.Names.{Means, Cell, Entries, found, added}
+use Rattle.c_types.specs.Names.{Means, Entries, found}
 use Rattle.c_types.specs.Functions.{means_of_func}
 use Rattle.c_types.specs.Programs.{means_of_shape, with_global, with_globals, with_func, with_funcs, outside_of}
 use Rattle.version_names.specs.Links as links
@@ -18,11 +17,11 @@ use Rattle.version_names.specs.Home.{Home, Linked, same_home, same_linked}
 use Rattle.version_names.specs.Home as home
 use Rattle.version_names.specs.Provenance as origin
 use Rattle.update_semantics.specs.UpdatingRun.{World, Specification, client_funcs}
-use Rattle.merged_program.specs.Names.{now_name, choice_name, cell_name, code_name, variable_name}
+use Rattle.merged_program.specs.Names.{now_name, cell_name, code_name, variable_name}
 use Rattle.merged_program.specs.Programs.{flag, merged_global, is_own_cell, merged_globals, wrapper, old_func, new_func, xform_func, client_func, is_wrapped, merged_main, merged_funcs}
-use Rattle.merged_types.proofs.EntryLaws.{one, found_added}
-use Rattle.merged_types.proofs.MergedNames.{by_bool, same_names, bytes_eq-sym, same_cells, same_codes, cell_apart-now, choice_apart-cell, kept-own}
-use Rattle.merged_types.proofs.Lookups.{named, name_of_func, name_of_global, func_named-is, global_named-is, or_else, or_none, named-append, named-filter, filter-passes, named-map}
+use Rattle.merged_types.proofs.EntryLaws.{found_added}
+use Rattle.merged_types.proofs.MergedNames.{by_bool, same_names, bytes_eq-sym, same_cells, same_codes, cell_apart-now, kept-own}
+use Rattle.merged_types.proofs.Lookups.{named, name_of_func, name_of_global, func_named-is, global_named-is, or_else, named-append, named-filter, filter-passes, named-map}
 
 -- ---- what is visible in a whole unit
 

@@ -1,38 +1,33 @@
 -- A merged program is typed in its plain form, and the resolved form of it.
-use Rattle.std.proofs.Common.{◌≡◌, ◌≤◌, ◌<◌, ◌^◌, ℕ, Bool, true, false, not, ◌&&◌, List, [], ◌∷◌, ◌++◌, map, length, Option, Some, None, is_some, unwrap_or, refl, sym, ap, ap₂, ◌∙◌, subst, arith, codes}
-use Rattle.std.specs.Prelude.{⊤, if◌then◌else◌}
+use Rattle.std.proofs.Common.{◌≡◌, ◌≤◌, ℕ, Bool, true, false, List, [], ◌∷◌, map, length, Option, Some, None, is_some, unwrap_or, refl, sym, ap, ap₂, ◌∙◌, codes}
 use Rattle.std.specs.List.{filter}
 use Rattle.std.specs.Str.{bytes_eq}
 use Rattle.c_lang.specs.Limits.{parameter_limit}
 use Rattle.c_lang.specs.Names.{Bytes}
 use Rattle.c_lang.specs.Kinds.{same_kinds, same_result}
-use Rattle.c_lang.specs.Programs.{global_named, func_named, func_in, no_func}
-use Rattle.c_lang.specs.Trees.{stmts_of}
+use Rattle.c_lang.specs.Programs.{global_named, func_named, no_func}
 use Rattle.c_lang.specs.declared.unit.Unit.TheVariants as unit
 use Rattle.c_lang.specs.declared.stmt.Kind.{Kind}
-use Rattle.c_lang.specs.declared.program.GlobalVar.{GlobalVar}
 use Rattle.c_lang.specs.declared.program.Func.{Func}
 use Rattle.c_lang.specs.declared.program.Program.{Program}
-use Rattle.c_types.specs.Names.{Means, Code, Entries, found}
+use Rattle.c_types.specs.Names.{Code, Entries, found}
 use Rattle.c_types.specs.Functions.{kinds_of, arity_as_value, means_of_func, is_main}
-use Rattle.c_types.specs.Programs.{with_globals, with_funcs, outside_of, has_main}
+use Rattle.c_types.specs.Programs.{with_globals, with_funcs, has_main}
 use Rattle.c_types.specs.Types.{AreNarrow, Types}
 use Rattle.c_types.specs.Programs.{resolved_program}
 use Rattle.c_types.specs.Plain.{plain}
 use Rattle.c_types.proofs.Combined.{both_true}
-use Rattle.version_names.specs.Links.{both_alike, same_head, is_shared_code}
+use Rattle.version_names.specs.Links.{both_alike, same_head}
 use Rattle.version_names.specs.Merged.{merged_name}
-use Rattle.version_names.specs.Home as home
 use Rattle.version_names.specs.Provenance as origin
 use Rattle.version_names.specs.declared.part.Origin.TheVariants as prefix
-use Rattle.update_semantics.specs.UpdatingRun.{World, client_funcs}
+use Rattle.update_semantics.specs.UpdatingRun.{World}
 use Rattle.state_xform.specs.Transformers.{is_start}
-use Rattle.merged_program.specs.Names.{code_name, variable_name, function_name}
-use Rattle.merged_program.specs.Programs.{declared, wrapper, starting, merged_globals, merged_main, old_func, new_func, xform_func, client_func, is_wrapped, merged_funcs, merged_program}
-use Rattle.merged_types.proofs.EntryLaws.{by_bool}
+use Rattle.merged_program.specs.Names.{variable_name, function_name}
+use Rattle.merged_program.specs.Programs.{wrapper, starting, merged_globals, merged_main, old_func, new_func, xform_func, is_wrapped, merged_funcs, merged_program}
 use Rattle.merged_types.proofs.CarriedScopes.{IsOutside, HasUpdate}
 use Rattle.merged_types.proofs.ResolvedFuncs.{IsResolvedFunc, version_merged, merged_alone}
-use Rattle.merged_types.proofs.PlainPrograms.{AreNew, AreNewGlobals, Each, IsResolvedProgram, typed_plain, resolved_back}
+use Rattle.merged_types.proofs.PlainPrograms.{AreNew, Each, IsResolvedProgram, typed_plain, resolved_back}
 use Rattle.merged_types.proofs.MergedNames.{merged_naming}
 use Rattle.merged_types.proofs.MergedTables.{no_func_named, no_old_cell, no_new_cell, no_wrapper_cell, no_xform_cell}
 use Rattle.merged_types.proofs.VersionNames.{first_outside, second_outside, merged_outside, old_names, new_names, old_code, new_code, kinds_sound, result_sound, nowhere_cell}

@@ -1,6 +1,6 @@
 -- Lists of declarations in which no name comes twice.
-use Rattle.std.proofs.Common.{◌≡◌, ◌≤◌, ◌+◌, ℕ, cond, Bool, true, false, not, ◌&&◌, ◌||◌, List, [], ◌∷◌, ◌++◌, map, length, Option, Some, None, is_some, refl, sym, ap, ap₂, ◌∙◌, subst, arith, codes}
-use Rattle.std.specs.Prelude.{⊤, if◌then◌else◌}
+use Rattle.std.proofs.Common.{◌≡◌, ◌≤◌, cond, Bool, true, false, ◌&&◌, ◌||◌, List, [], ◌∷◌, ◌++◌, map, length, Option, Some, None, is_some, refl, sym, ap, ap₂, ◌∙◌, subst, codes}
+use Rattle.std.specs.Prelude.{if◌then◌else◌}
 use Rattle.std.specs.Option.{option_or, option_map}
 use Rattle.std.specs.List.{filter}
 use Rattle.std.specs.Str.{bytes_eq}
@@ -9,11 +9,11 @@ use Rattle.c_lang.specs.Names.{Bytes}
 use Rattle.c_lang.specs.Programs.{global_named, func_named}
 use Rattle.c_lang.specs.declared.program.GlobalVar.{GlobalVar}
 use Rattle.c_lang.specs.declared.program.Func.{Func}
-use Rattle.c_types.specs.Names.{Means, Code, Entries, found, added}
+use Rattle.c_types.specs.Names.{Means, Entries, found, added}
 use Rattle.c_types.specs.Functions.{kinds_of, means_of_func, is_main}
-use Rattle.c_types.specs.Programs.{means_of_shape, with_global, with_globals, with_func, with_funcs, is_empty, is_start, has_main}
+use Rattle.c_types.specs.Programs.{with_global, with_globals, with_func, with_funcs, is_empty, is_start, has_main}
 use Rattle.c_types.specs.Types.{IsMatch, AreNarrow, AreTypedProtos}
-use Rattle.c_types.proofs.Combined.{both_true, either_false}
+use Rattle.c_types.proofs.Combined.{both_true}
 use Rattle.merged_program.specs.Programs.{declared}
 use Rattle.merged_types.proofs.EntryLaws.{by_bool, one, same_names, itself, found_added}
 use Rattle.merged_types.proofs.MergedNames.{bytes_eq-sym, true_false}

@@ -1,18 +1,15 @@
 -- A program is typed in its plain form, and the resolved form of it, where its functions are typed and in resolved
 -- form.
-use Rattle.std.proofs.Common.{◌≡◌, ◌≤◌, ◌+◌, ◌-◌, ℕ, suc, Bool, true, false, List, [], ◌∷◌, ◌++◌, map, length, Option, Some, None, refl, sym, ap, ap₂, ◌∙◌, subst, arith}
+use Rattle.std.proofs.Common.{◌≡◌, ◌≤◌, ◌+◌, ◌-◌, ℕ, Bool, true, false, List, [], ◌∷◌, map, None, refl, sym, ap, ap₂, ◌∙◌, subst, arith}
 use Rattle.std.specs.Prelude.{⊤, ◌||◌}
-use Rattle.c_lang.specs.Names.{Bytes}
 use Rattle.c_lang.specs.Limits.{cell_limit}
 use Rattle.c_lang.specs.declared.unit.Unit.{Unit}
 use Rattle.c_lang.specs.declared.program.GlobalVar.{GlobalVar}
-use Rattle.c_lang.specs.declared.program.Proto.{Proto}
 use Rattle.c_lang.specs.declared.program.Func.{Func}
 use Rattle.c_lang.specs.declared.program.Program.{Program}
-use Rattle.c_types.specs.Names.{Means, Cell, Code, Entries, found}
-use Rattle.c_types.specs.Functions.{resolved_func}
+use Rattle.c_types.specs.Names.{Entries, found}
 use Rattle.c_types.specs.Programs.{with_global, with_globals, with_func, with_funcs, outside_of, cells_of, is_start, has_main, resolved_funcs, resolved_program}
-use Rattle.c_types.specs.Types.{IsInitial, IsHeld, IsTypedGlobal, AreTypedGlobals, IsTypedProto, AreTypedProtos, IsTypedFunc, AreTypedFuncs, Types}
+use Rattle.c_types.specs.Types.{IsInitial, IsHeld, AreTypedGlobals, AreTypedProtos, AreTypedFuncs, Types}
 use Rattle.c_types.specs.Plain.{plain_func, built_func, plain}
 use Rattle.merged_types.proofs.ResolvedFuncs.{IsResolvedFunc, plain_typed, plain_back}
 

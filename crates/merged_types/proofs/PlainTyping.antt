@@ -12,13 +12,13 @@ use Rattle.c_types.specs.Scopes.{Scope, Block, names_of, kind_of_dest}
 use Rattle.c_types.specs.Expressions.{kind_of, kind_of_name, or_int, own_kind, place_of}
 use Rattle.c_types.specs.Calls.{place_in, element_kind, ints}
 use Rattle.c_types.specs.Statements.{scope_after, block_in, entered, after_block}
-use Rattle.c_types.specs.Typing.{IsValue, IsFunction, IsLiteral, IsPointer, IsArray, IsTyped, AreArguments, IsCall, IsReturn, IsTypedStatement, AreTyped}
+use Rattle.c_types.specs.Typing.{IsValue, IsFunction, IsLiteral, IsPointer, IsTyped, AreArguments, IsCall, IsReturn, IsTypedStatement, AreTyped}
 use Rattle.c_types.specs.Plain.{plain_expression, plain_statement, plain_statements}
 use Rattle.c_types.proofs.StatementsTyped.{array_kind}
 use Rattle.merged_types.proofs.Resolution.{name_tree, literal_tree, tree, trees, call_tree, statement_tree, list_tree}
 use Rattle.merged_types.proofs.ResolvedTyping.{IsInt, IsVariable, IsResolved, AreResolvedArguments, IsResolvedCall, IsResolvedCallBy, IsResolvedReturn, IsResolvedStatement, AreResolved}
 use Rattle.merged_types.proofs.ResolvedSources.{place_by}
-use Rattle.merged_types.proofs.SameScopes.{DeclaresSame, DeclareSame, declares_itself, declare_nothing, declare_more, declares_if, declares_while, same_after, same_entered, same_after_block}
+use Rattle.merged_types.proofs.SameScopes.{DeclaresSame, DeclareSame, declare_nothing, declare_more, declares_if, declares_while, same_after, same_entered, same_after_block}
 
 -- ---- expressions
 

@@ -1,5 +1,5 @@
 -- Resolution of mirrors, which builds what resolution gives.
-use Rattle.std.proofs.Common.{◌≡◌, ℕ, ℤ, List, [], ◌∷◌, map, Option, Some, None, refl, ap, ap₂, ◌∙◌}
+use Rattle.std.proofs.Common.{◌≡◌, ℤ, List, [], ◌∷◌, map, Option, Some, None, refl, ap, ap₂, ◌∙◌}
 use Rattle.std.specs.Option.{option_map}
 use Rattle.c_lang.specs.Names.{Bytes}
 use Rattle.c_lang.specs.Trees.{Expression, literal, variable, element, function, null, negation, logical_not, binary, expr_of, Statement, Statements, skip, set, set_element, call, call_by, if_else, while_loop, break_loop, return_with, assert_that, input, output, point, choice, force, pick, none, more, stmt_of, stmts_of}
@@ -15,7 +15,7 @@ use Rattle.c_types.specs.Names.{Means, Cell, Array, Code, Refused, Names}
 use Rattle.c_types.specs.Scopes.{Scope, names_of}
 use Rattle.c_types.specs.Bodies.{body_of}
 use Rattle.c_types.specs.Expressions.{place_of, resolved_name, resolved_literal, resolved}
-use Rattle.c_types.specs.Calls.{place_in, element_kind, first_place, other_places, places_of, resolved_args, resolved_call}
+use Rattle.c_types.specs.Calls.{place_in, element_kind, first_place, other_places, resolved_args, resolved_call}
 use Rattle.c_types.specs.Statements.{scope_after, entered, after_block, resolved_statement, resolved_list}
 use Rattle.merged_types.proofs.TreesBack.{body_back}
 

@@ -1,19 +1,19 @@
 -- Functions that are typed and in resolved form: of sources, under merging, and of their plain forms.
-use Rattle.std.proofs.Common.{◌≡◌, ◌≤◌, ℕ, Bool, true, false, ◌&&◌, List, [], ◌∷◌, ◌++◌, map, length, Option, Some, None, refl, sym, ap, ap₂, ◌∙◌, subst}
-use Rattle.std.specs.Prelude.{⊤, if◌then◌else◌, pos}
+use Rattle.std.proofs.Common.{◌≡◌, ◌≤◌, ℕ, Bool, true, false, ◌&&◌, List, [], ◌∷◌, ◌++◌, map, length, Some, refl, sym, ap, ◌∙◌, subst}
+use Rattle.std.specs.Prelude.{if◌then◌else◌, pos}
 use Rattle.std.proofs.lemmas.List.{append-nil}
 use Rattle.c_lang.specs.Limits.{parameter_limit}
 use Rattle.c_lang.specs.Names.{Bytes}
-use Rattle.c_lang.specs.Trees.{Statement, Statements, return_with, literal, none, more, stmt_of, stmts_of}
+use Rattle.c_lang.specs.Trees.{Statements, literal, none, more, stmt_of, stmts_of}
 use Rattle.c_lang.specs.declared.unit.Pos.{Pos}
 use Rattle.c_lang.specs.declared.stmt.Kind.{Kind}
 use Rattle.c_lang.specs.declared.stmt.Stmt.{Stmt}
 use Rattle.c_lang.specs.declared.program.Func.{Func}
 use Rattle.c_types.specs.Bodies.{body_of}
-use Rattle.c_types.specs.Names.{Means, Cell, Entries, found, added}
+use Rattle.c_types.specs.Names.{Cell, Entries, added}
 use Rattle.c_types.specs.Scopes.{Scope, Block, names_of, with_dest}
 use Rattle.c_types.specs.Endings.{ends, can_end}
-use Rattle.c_types.specs.Statements.{dest_of, with_locals, told_by, told_by_all, scope_after, block_in, entered, resolved_list}
+use Rattle.c_types.specs.Statements.{dest_of, with_locals, scope_after, block_in, entered, resolved_list}
 use Rattle.c_types.specs.Functions.{kinds_of, scope_of, with_param, with_params, params_block, is_main, body_scope, resolved_func}
 use Rattle.c_types.specs.Typing.{AreTyped}
 use Rattle.c_types.specs.Types.{AreNarrow, AreParams, IsTypedFunc}
@@ -23,9 +23,9 @@ use Rattle.merged_program.specs.Statements.{merged_statements, return_zero}
 use Rattle.merged_program.specs.Programs.{ending}
 use Rattle.c_types.proofs.Combined.{both_true}
 use Rattle.merged_types.proofs.TreesBack.{body_back}
-use Rattle.merged_types.proofs.EntryLaws.{by_bool, renamed_entries, renamed_added}
+use Rattle.merged_types.proofs.EntryLaws.{by_bool, renamed_added}
 use Rattle.merged_types.proofs.Resolution.{list_tree, list_built}
-use Rattle.merged_types.proofs.ResolvedTyping.{IsResolvedReturn, IsResolvedStatement, AreResolved}
+use Rattle.merged_types.proofs.ResolvedTyping.{IsResolvedReturn, AreResolved}
 use Rattle.merged_types.proofs.SameScopes.{same_entered}
 use Rattle.merged_types.proofs.ResolvedSources.{trees_declare, list_resolved}
 use Rattle.merged_types.proofs.PlainTyping.{ArePlain, plain_declare, list_plain}

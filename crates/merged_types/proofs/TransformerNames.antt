@@ -1,6 +1,5 @@
 -- What a transformer's names stand for in its merged code.
-use Rattle.std.proofs.Common.{◌≡◌, ℕ, cond, Bool, true, false, not, ◌&&◌, if◌then◌else◌, List, [], ◌∷◌, Option, Some, None, is_some, refl, sym, ap, ap₂, ◌∙◌, subst, codes}
-use Rattle.std.specs.Prelude.{⊤}
+use Rattle.std.proofs.Common.{◌≡◌, Bool, true, false, ◌&&◌, if◌then◌else◌, List, [], ◌∷◌, Option, Some, None, is_some, refl, sym, ap, ap₂, ◌∙◌, subst, codes}
 use Rattle.std.specs.Option.{option_map}
 use Rattle.std.specs.Str.{bytes_eq}
 use Rattle.c_lang.specs.Names.{Bytes}
@@ -9,14 +8,12 @@ use Rattle.c_lang.specs.Refusals as refused
 use Rattle.c_lang.specs.Programs.{global_named, func_named}
 use Rattle.c_lang.specs.declared.stmt.Kind.{Kind}
 use Rattle.c_lang.specs.declared.unit.Unit.TheVariants as unit
-use Rattle.c_lang.specs.declared.program.Shape.{Shape}
-use Rattle.c_lang.specs.declared.program.Shape.TheVariants as shape
 use Rattle.c_lang.specs.declared.program.GlobalVar.{GlobalVar}
 use Rattle.c_lang.specs.declared.program.Func.{Func}
 use Rattle.c_lang.specs.declared.program.Program.{Program}
-use Rattle.c_types.specs.Names.{Means, Cell, Array, Code, Refused, Entries, found}
+use Rattle.c_types.specs.Names.{Means, Entries, found}
 use Rattle.c_types.specs.Scopes.{names_version}
-use Rattle.c_types.specs.Functions.{kinds_of, arity_as_value, means_of_func, is_main, resolved_func}
+use Rattle.c_types.specs.Functions.{kinds_of, arity_as_value, means_of_func, resolved_func}
 use Rattle.c_types.specs.Programs.{means_of_shape, with_globals, with_func, resolved_funcs}
 use Rattle.version_names.specs.Links as links
 use Rattle.version_names.specs.Links.{both_alike, same_head, is_shared_cell, is_shared_code, cell_part, code_part}
@@ -33,20 +30,20 @@ use Rattle.version_names.specs.declared.part.Part.{Part}
 use Rattle.version_names.specs.declared.part.Part.TheVariants as part
 use Rattle.version_names.specs.declared.part.Sort2.{Sort2}
 use Rattle.version_names.specs.declared.part.Sort2.TheVariants as sort
-use Rattle.update_semantics.specs.UpdatingRun.{World, linked_by_prefix, cell_meaning, function_meaning}
+use Rattle.update_semantics.specs.UpdatingRun.{World, linked_by_prefix}
 use Rattle.state_xform.specs.Visible.{Parts, own_func, with_own_funcs, version_func, with_cells, with_codes, visible}
-use Rattle.state_xform.specs.Transformers.{IsOwnName, AreOwnFuncs}
+use Rattle.state_xform.specs.Transformers.{AreOwnFuncs}
 use Rattle.merged_program.specs.Names.{cell_name, code_name, variable_name, function_name}
 use Rattle.merged_program.specs.Programs.{xform_func}
 use Rattle.merged_types.proofs.EntryLaws.{by_bool, same_names, itself}
 use Rattle.merged_types.proofs.Carrying.{IsKeptCell, IsKeptCode}
 use Rattle.merged_types.proofs.CarriedScopes.{IsOutside}
-use Rattle.merged_types.proofs.MergedNames.{same_home-is, same_home-refl, true_false, merged_naming}
+use Rattle.merged_types.proofs.MergedNames.{true_false, merged_naming}
 use Rattle.merged_types.proofs.MergedTables.{means_of_global, no_xform_cell}
 use Rattle.merged_types.proofs.Lookups.{or_none}
 use Rattle.merged_types.proofs.LinkedNames.{linked_both, linked_old, linked_new, linked_nowhere}
 use Rattle.merged_types.proofs.VersionNames.{merged_outside, kept_some, shape_no_code, kept_func, same_means, kinds_merged, old_cell, shared_cell, new_alone, nowhere, code_found, old_code, new_code, wrapper_code, shared_code}
-use Rattle.merged_types.proofs.PlainPrograms.{AreNew, AreNewGlobals, Each, IsResolvedProgram}
+use Rattle.merged_types.proofs.PlainPrograms.{AreNew, Each, IsResolvedProgram}
 use Rattle.merged_types.proofs.NewNames.{IsOwn, IsOwnGlobal, no_global, each_own, each_own_global, owned, owned_global, main_named, main_starts, named_main}
 use Rattle.merged_types.proofs.SourcePrograms.{resolved_named}
 use Rattle.merged_types.proofs.VisibleNames.{IsNot, cells_nothing, codes_nothing, IsKeptEntry, AllKept, IsKeptPart, kept_own, kept_cells, kept_codes}

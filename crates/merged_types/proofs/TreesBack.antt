@@ -1,6 +1,6 @@
 -- What is built from a mirror has that mirror.
 use Rattle.std.proofs.Common.{◌≡◌, List, [], ◌∷◌, map, Some, None, refl, ap, ap₂, ◌∙◌}
-use Rattle.c_lang.specs.Trees.{Expression, expression_of, expr_of, Statement, Statements, skip, set, set_element, call, call_by, if_else, while_loop, break_loop, return_with, assert_that, input, output, point, choice, force, pick, none, more, statement_of, statements, stmt_of, stmts_of}
+use Rattle.c_lang.specs.Trees.{Expression, expression_of, expr_of, Statement, Statements, skip, set, set_element, call, call_by, if_else, while_loop, break_loop, return_with, assert_that, input, output, point, choice, force, pick, none, more, statement_of, stmt_of, stmts_of}
 use Rattle.c_lang.proofs.TreeLemmas.{expression_of-expr_of, statement_of-Skip, statement_of-Set, statement_of-SetElem, statement_of-Call, statement_of-CallBy, statement_of-If, statement_of-While, statement_of-Break, statement_of-Return, statement_of-Assert, statement_of-Input, statement_of-Output, statement_of-Point, statement_of-Choice, statement_of-Force, statement_of-Pick}
 use Rattle.c_types.specs.Bodies.{body_of}
 

@@ -1,5 +1,5 @@
 -- What the merged program has for updates and wrappers, and names that nothing in it has.
-use Rattle.std.proofs.Common.{◌≡◌, ◌<◌, ◌^◌, ℕ, Bool, true, false, not, ◌&&◌, List, [], ◌∷◌, ◌++◌, map, Option, Some, None, refl, sym, ap, ap₂, ◌∙◌, subst, arith, codes}
+use Rattle.std.proofs.Common.{◌≡◌, ◌<◌, ◌^◌, ℕ, Bool, true, false, not, List, [], ◌∷◌, ◌++◌, map, Option, Some, None, refl, sym, ap, ap₂, ◌∙◌, subst, arith, codes}
 use Rattle.std.specs.Prelude.{if◌then◌else◌}
 use Rattle.std.specs.Option.{option_map}
 use Rattle.std.specs.List.{filter}
@@ -8,10 +8,10 @@ use Rattle.std.specs.Str.{bytes_eq}
 use Rattle.std.specs.Str.Parse.{IsNumeral}
 use Rattle.std.proofs.lemmas.Fmt.{decimal_is_IsNumeral, decimal_injective}
 use Rattle.c_lang.specs.Names.{Bytes}
-use Rattle.c_lang.specs.Programs.{global_named, func_named}
+use Rattle.c_lang.specs.Programs.{func_named}
 use Rattle.c_lang.specs.declared.stmt.Kind.{Kind}
 use Rattle.c_lang.specs.declared.program.Func.{Func}
-use Rattle.c_types.specs.Names.{Means, Code, found}
+use Rattle.c_types.specs.Names.{Code, found}
 use Rattle.c_types.specs.Functions.{kinds_of, arity_as_value, means_of_func}
 use Rattle.c_types.specs.Programs.{is_empty}
 use Rattle.c_types.proofs.Combined.{both_true}
@@ -22,12 +22,12 @@ use Rattle.version_names.specs.Provenance as origin
 use Rattle.version_names.specs.declared.part.Origin.{Origin}
 use Rattle.version_names.specs.declared.part.Origin.TheVariants as prefix
 use Rattle.update_semantics.specs.UpdatingRun.{World, Specification, client_funcs}
-use Rattle.merged_program.specs.Names.{now_name, choice_name, result_name, parameter_name, cell_name, code_name, kept_name}
+use Rattle.merged_program.specs.Names.{now_name, choice_name, result_name, parameter_name, cell_name, kept_name}
 use Rattle.merged_program.specs.Programs.{merged_globals, merged_param, wrapper, old_func, new_func, xform_func, client_func, is_wrapped, merged_main, merged_funcs}
 use Rattle.state_xform.specs.Transformers.{is_start}
-use Rattle.merged_types.proofs.MergedNames.{to_false, same_names, bytes_eq-sym, kept-own, choice_apart-cell}
+use Rattle.merged_types.proofs.MergedNames.{to_false, same_names, kept-own}
 use Rattle.merged_types.proofs.Lookups.{or_else, or_none}
-use Rattle.merged_types.proofs.MergedTables.{either_means, found_outside, no_func_named, funcs_append, table, no_cell, no_xform_cell}
+use Rattle.merged_types.proofs.MergedTables.{either_means, found_outside, no_func_named, funcs_append, no_cell, no_xform_cell}
 use Rattle.merged_types.proofs.CarriedScopes.{HasUpdate}
 use Rattle.merged_types.proofs.VersionNames.{merged_outside, code_found}
 

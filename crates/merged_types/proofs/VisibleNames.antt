@@ -1,5 +1,5 @@
 -- What is visible in a transformer, entry by entry.
-use Rattle.std.proofs.Common.{◌≡◌, ℕ, cond, Bool, true, false, List, [], ◌∷◌, Option, Some, None, is_some, refl, sym, ap, ap₂, ◌∙◌, subst}
+use Rattle.std.proofs.Common.{◌≡◌, cond, Bool, true, false, List, [], ◌∷◌, Option, Some, None, is_some, sym, ap, ◌∙◌, subst}
 use Rattle.std.specs.Prelude.{⊤, if◌then◌else◌}
 use Rattle.std.specs.Option.{option_or}
 use Rattle.std.specs.Str.{bytes_eq}
@@ -7,7 +7,7 @@ use Rattle.c_lang.specs.Names.{Bytes}
 use Rattle.c_lang.specs.Programs.{global_named, func_named}
 use Rattle.c_lang.specs.declared.program.GlobalVar.{GlobalVar}
 use Rattle.c_lang.specs.declared.program.Func.{Func}
-use Rattle.c_types.specs.Names.{Means, Cell, Array, Code, Refused, Entries, found, added}
+use Rattle.c_types.specs.Names.{Means, Refused, Entries, found, added}
 use Rattle.c_types.specs.Programs.{means_of_shape}
 use Rattle.c_lang.specs.Refusals as refused
 use Rattle.version_names.specs.Merged.{merged_name}

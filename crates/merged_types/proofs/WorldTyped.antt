@@ -1,6 +1,5 @@
 -- The merged program of a world is typed in its plain form, and the resolved form of it.
-use Rattle.std.proofs.Common.{◌≡◌, ℕ, nat_eq, Bool, true, false, not, ◌&&◌, ◌||◌, if◌then◌else◌, List, [], ◌∷◌, ◌++◌, drop, All, Option, Some, None, is_some, refl, sym, ap, ap₂, ◌∙◌, subst, codes}
-use Rattle.std.specs.Prelude.{⊤}
+use Rattle.std.proofs.Common.{◌≡◌, ℕ, nat_eq, Bool, true, false, ◌||◌, if◌then◌else◌, List, [], ◌∷◌, All, Option, Some, None, is_some, refl, sym, ap, ap₂, ◌∙◌, subst, codes}
 use Rattle.std.specs.Option.{option_map}
 use Rattle.std.specs.List.{starts_with}
 use Rattle.std.specs.Str.{bytes_eq}
@@ -27,7 +26,6 @@ use Rattle.version_names.specs.Home.{same_home}
 use Rattle.version_names.specs.Home as home
 use Rattle.version_names.specs.Parts.{part_at, part_of}
 use Rattle.version_names.specs.declared.part.Version.TheVariants as v
-use Rattle.version_names.specs.declared.part.Part.{Part}
 use Rattle.version_names.specs.declared.part.Part.TheVariants as part
 use Rattle.version_names.specs.declared.part.Sort2.TheVariants as sort
 use Rattle.state_xform.specs.Kept.{IsTransformerOf}

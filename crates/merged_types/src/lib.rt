@@ -1,2 +1,7 @@
-//! The merged program is typed, and it is the resolved form of its own plain form.
+//! The law that the merged program of a world is typed, and is the resolved form of its own plain
+//! form.
 #![tactic(auto)]
+
+mod laws;
+
+pub use laws::merged_is_typed;
