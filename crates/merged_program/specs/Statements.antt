@@ -45,9 +45,13 @@ asking p k = if_else p (is_zero now_name) (question p k) none
 abbrev pub forcing : Pos → Statement
 forcing p = if_else p (is_zero now_name) (swap p) none
 
+-- the values of these parameters
+abbrev pub values_of : List (Kind × Bytes) → List Expression
+values_of ps = map (λ q. variable q.1) ps
+
 -- a call with the values of these parameters
 abbrev pub call_with : Pos → Dest → Bytes → List (Kind × Bytes) → Statement
-call_with p d f ps = call p d f (map (λ q. variable q.1) ps)
+call_with p d f ps = call p d f (values_of ps)
 
 -- a call whose result is handed on, where it has one
 abbrev pub hand : Pos → Bool → Bytes → List (Kind × Bytes) → Statements

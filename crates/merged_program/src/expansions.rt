@@ -1,8 +1,9 @@
 //! Statements that no source has: those that stand for points, forces and picks, and the bodies of wrappers
 //! and of `main`. The only error of each function is want of memory.
 
-ghost use Rattle.std.specs.Prelude.{◌≡◌, ◌++◌, IfOk, map, List, Bool, true, false};
+ghost use Rattle.std.specs.Prelude.{◌≡◌, IfOk, map};
 ghost use Rattle.c_lang.specs.Trees.{stmt_of, stmts_of, expr_of, variable};
+ghost use Rattle.merged_program.specs.Names.{now_name};
 ghost use Rattle.merged_program.specs.Statements as spec;
 
 use c_lang::{Dest, Expr, Kind, Name, Op, Pos, Stmt};
@@ -10,8 +11,11 @@ use sqlite_items::{Boxed, Items};
 use std::alloc::{AllocError, Global};
 
 const NOW: &[u8] = b"dsu_now";
+
 const CHOICE: &[u8] = b"dsu_c";
+
 const RESULT: &[u8] = b"dsu_r";
+
 const TRANSFORM: &[u8] = b"dsu_xform_dsu_transform";
 
 fn variable(alloc: Global, name: &[u8]) -> Result<Boxed<Expr>, AllocError>
@@ -121,7 +125,7 @@ pub fn forcing(alloc: Global, pos: Pos) -> Result<Stmt, AllocError>
 }
 
 fn arguments(alloc: Global, params: &[(Kind, Name)]) -> Result<Items<Expr>, AllocError>
-    ensures { IfOk result (λ es. es ≡ map expr_of (map (λ (q : c.Kind × List ℕ). variable q.1) params.now)) }
+    ensures { IfOk result (λ es. es ≡ map expr_of (spec.values_of params.now)) }
 {
     let mut all = Items::new(alloc);
     for param in params {
@@ -166,13 +170,7 @@ pub fn hand(
         return Ok(all);
     }
     let name = Name::new(alloc, RESULT)?;
-    all.push(call(
-        alloc,
-        pos,
-        Dest::Fresh(Kind::Int, name),
-        callee,
-        params,
-    )?)?;
+    all.push(call(alloc, pos, Dest::Fresh(Kind::Int, name), callee, params)?)?;
     let value = Expr::Var(Name::new(alloc, RESULT)?);
     all.push(Stmt::Return {
         pos,

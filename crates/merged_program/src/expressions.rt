@@ -1,7 +1,7 @@
 //! Expressions and destinations under the names of the merged program. The only error of each function is
 //! want of memory.
 
-ghost use Rattle.std.specs.Prelude.{◌≡◌, IfOk, map};
+ghost use Rattle.std.specs.Prelude.{◌≡◌, IfOk};
 ghost use Rattle.update_semantics.specs.Linked.{provenance_of};
 ghost use Rattle.merged_program.specs.Code.Built as built;
 
@@ -60,7 +60,7 @@ pub fn arguments(
     origin: Provenance,
     args: &[Expr],
 ) -> Result<Items<Expr>, AllocError>
-    ensures { IfOk result (λ r. r ≡ map (built.expression meanings.now (provenance_of origin)) args.now) }
+    ensures { IfOk result (λ r. r ≡ built.expressions meanings.now (provenance_of origin) args.now) }
 {
     let mut all = Items::new(alloc);
     for e in args {

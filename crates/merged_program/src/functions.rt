@@ -11,7 +11,7 @@ ghost use Rattle.merged_program.specs.Code.Built as built;
 ghost use Rattle.merged_program.specs.Programs as spec;
 
 use crate::expansions::{hand, return_zero, wrapping};
-use crate::globals::is_shared;
+use crate::globals::is_shared_code;
 use crate::names::{parameter, variable};
 use crate::statements::body;
 use c_lang::{Func, Kind, Name, Pos, Stmt, Unit};
@@ -20,7 +20,7 @@ use c_types::functions::is_main;
 use sqlite_items::Items;
 use std::alloc::{AllocError, Global};
 use update_semantics::{Meanings, Provenance};
-use version_names::{Origin, Sort2, Version, merged_name};
+use version_names::{Origin, Version, merged_name};
 
 fn params(
     alloc: Global,
@@ -116,11 +116,7 @@ fn parameters(alloc: Global, params: &[(Kind, Name)]) -> Result<Items<(Kind, Nam
 }
 
 // What a wrapper does.
-fn wrapper_body(
-    alloc: Global,
-    f: &Func,
-    params: &[(Kind, Name)],
-) -> Result<Items<Stmt>, AllocError>
+fn wrapper_body(alloc: Global, f: &Func, params: &[(Kind, Name)]) -> Result<Items<Stmt>, AllocError>
     ensures { IfOk result (λ all. all ≡ built.wrapper_body f.now params.now) }
 {
     let new = merged_name(alloc, Origin::New, &f.name)?;
@@ -235,7 +231,7 @@ fn add_wrappers(
     ensures { OnOk result (all.new ≡ all.old ++ map spec.wrapper (filter (spec.is_wrapped (world_of meanings.now)) funcs.now)) }
 {
     for f in funcs {
-        if is_shared(meanings.part(Version::Old, Sort2::Code, &f.name)) {
+        if is_shared_code(meanings, &f.name) {
             all.push(wrapper(alloc, f)?)?;
         }
     }

@@ -3,6 +3,7 @@
 ghost use Rattle.std.specs.Prelude.{◌≡◌, ◌++◌, IfOk, OnOk, map};
 ghost use Rattle.std.specs.List.{filter};
 ghost use Rattle.version_names.specs.Home.{Both, same_home};
+ghost use Rattle.version_names.specs.Links as links;
 ghost use Rattle.version_names.specs.Provenance as origin;
 ghost use Rattle.update_semantics.specs.Linked.{home_at, provenance_of};
 ghost use Rattle.update_semantics.specs.Worlds.{world_of};
@@ -15,14 +16,27 @@ use std::alloc::{AllocError, Global};
 use update_semantics::{Meanings, Provenance};
 use version_names::{Part, Sort2, Version};
 
-/// Whether both versions have the name alike.
-pub fn is_shared(part: Option<Part>) -> bool
+// Whether both versions have the name alike.
+fn is_shared(part: Option<Part>) -> bool
     ensures { result ≡ same_home (home_at part) Both }
 {
     match part {
         Some(Part::Both) => true,
         Some(Part::Old) | Some(Part::New) | None => false,
     }
+}
+
+fn is_shared_cell(meanings: &Meanings<'_>, name: &Name) -> bool
+    ensures { result ≡ links.is_shared_cell (world_of meanings.now).first (world_of meanings.now).second name.now }
+{
+    is_shared(meanings.part(Version::New, Sort2::Cell, name))
+}
+
+/// Whether the versions share the function.
+pub fn is_shared_code(meanings: &Meanings<'_>, name: &Name) -> bool
+    ensures { result ≡ links.is_shared_code (world_of meanings.now).first (world_of meanings.now).second name.now }
+{
+    is_shared(meanings.part(Version::Old, Sort2::Code, name))
 }
 
 fn shape(
@@ -86,7 +100,7 @@ fn add_new(
     ensures { OnOk result (all.new ≡ all.old ++ map (spec.merged_global (world_of meanings.now) origin.New) (filter (spec.is_own_cell (world_of meanings.now)) globals.now)) }
 {
     for g in globals {
-        if !is_shared(meanings.part(Version::New, Sort2::Cell, &g.name)) {
+        if !is_shared_cell(meanings, &g.name) {
             all.push(global(alloc, meanings, Provenance::New, g)?)?;
         }
     }

@@ -1,7 +1,7 @@
 //! The merged program.
 
 ghost use Rattle.std.specs.Prelude.{◌≡◌, IfOk, map};
-ghost use Rattle.update_semantics.specs.Worlds.{world_of};
+ghost use Rattle.update_semantics.specs.Worlds.{IsWorld, world_of};
 ghost use Rattle.merged_program.specs.Programs as spec;
 
 use crate::functions::funcs;
@@ -39,7 +39,8 @@ fn prototypes(alloc: Global, funcs: &[Func]) -> Result<Items<Proto>, AllocError>
 /// The program that the versions and the transformer of a world are merged into. The only error is want
 /// of memory.
 pub fn merged_program(alloc: Global, world: &World) -> Result<Program, AllocError>
-    ensures { IfOk result (λ program. program ≡ spec.merged_program (world_of world.now)) }
+    ensures program { IfOk result (λ program. program ≡ spec.merged_program (world_of world.now)) }
+    ensures made { IsWorld world.now }
 {
     let meanings = Meanings::new(alloc, world)?;
     let funcs = funcs(alloc, &meanings)?;

@@ -8,7 +8,7 @@ ghost use Rattle.version_names.specs.Home.{Both, same_home};
 ghost use Rattle.update_semantics.specs.Linked.{home_at, linked_at, function_at, provenance_of, home_in, declared_name, program_of, own_home, alone};
 ghost use Rattle.plain_run.specs.Environments.{seen_definition};
 ghost use Rattle.update_semantics.specs.UpdatingRun.{linked_by_prefix, cell_meaning, function_meaning, version_code, code_of};
-ghost use Rattle.update_semantics.specs.Worlds.{world_of};
+ghost use Rattle.update_semantics.specs.Worlds.{IsWorld, world_of};
 
 use crate::declared::Declared;
 use crate::linked::{Function, Linked, Provenance};
@@ -82,7 +82,8 @@ fn is_own(version: Version, part: Option<Part>) -> bool
 impl<'p> Meanings<'p> {
     /// The tables of a world. The only error is want of memory.
     pub fn new(alloc: Global, world: &'p World) -> Result<Meanings<'p>, AllocError>
-        ensures { IfOk result (λ meanings. meanings ≡ world.entry.now) }
+        ensures tables { IfOk result (λ meanings. meanings ≡ world.entry.now) }
+        ensures made { IsWorld world.entry.now }
     {
         let first = Declared::new(alloc, world.old_prog().program())?;
         let second = Declared::new(alloc, world.new_prog().program())?;

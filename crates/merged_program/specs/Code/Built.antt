@@ -18,7 +18,7 @@ use Rattle.version_names.specs.declared.part.Origin.{Origin}
 use Rattle.version_names.specs.declared.part.Origin.TheVariants as prefix
 use Rattle.update_semantics.specs.Worlds.{World, world_of}
 use Rattle.merged_program.specs.Names.{variable_name, function_name}
-use Rattle.merged_program.specs.Expressions.{renamed_dest, renamed}
+use Rattle.merged_program.specs.Expressions.{renamed_dest, renamed, all_renamed, renamed_option}
 use Rattle.merged_program.specs.Statements.{hand, wrapping, return_zero, merged_statement, merged_statements}
 use Rattle.merged_program.specs.Programs.{merged_param}
 
@@ -32,8 +32,11 @@ module _ (w : World) (o : Provenance) where
   abbrev pub expression : Expr → Expr
   expression e = expr_of (renamed variable function (expression_of e))
 
+  abbrev pub expressions : List Expr → List Expr
+  expressions es = map expr_of (all_renamed variable function (map expression_of es))
+
   abbrev pub optional : Option Expr → Option Expr
-  optional e = option_map expression e
+  optional e = option_map expr_of (renamed_option variable function (option_map expression_of e))
 
   abbrev pub dest : Dest → Dest
   dest d = renamed_dest variable d
