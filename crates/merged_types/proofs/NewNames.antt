@@ -237,7 +237,7 @@ or_right false b h k = h
 pub IsStartIfMain : Func → Type 0
 IsStartIfMain f = is_main f.name ≡ true → (f.gives ≡ true) × (f.params ≡ [])
 
-empty_is : {X : Type 0} (xs : List X) → is_empty xs ≡ true → xs ≡ []
+pub empty_is : {X : Type 0} (xs : List X) → is_empty xs ≡ true → xs ≡ []
 empty_is [] h = refl
 empty_is (x ∷ xs) h = absurd cc
 

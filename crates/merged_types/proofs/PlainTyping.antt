@@ -17,7 +17,7 @@ use Rattle.c_types.specs.Plain.{plain_expression, plain_statement, plain_stateme
 use Rattle.c_types.proofs.StatementsTyped.{array_kind}
 use Rattle.merged_types.proofs.Resolution.{name_tree, literal_tree, tree, trees, call_tree, statement_tree, list_tree}
 use Rattle.merged_types.proofs.ResolvedTyping.{IsInt, IsVariable, IsResolved, AreResolvedArguments, IsResolvedCall, IsResolvedCallBy, IsResolvedReturn, IsResolvedStatement, AreResolved}
-use Rattle.merged_types.proofs.ResolvedSources.{place_by}
+use Rattle.merged_types.proofs.ResolvedSources.{place_by, function_int}
 use Rattle.merged_types.proofs.SameScopes.{DeclaresSame, DeclareSame, declare_nothing, declare_more, declares_if, declares_while, same_after, same_entered, same_after_block}
 
 -- ---- expressions
@@ -81,13 +81,6 @@ variable_int (Cell k) h = sym h
 variable_int Array h = absurd h
 variable_int (Code params gives value denied) h = absurd h
 variable_int (Refused n) h = absurd h
-
-function_int : (m : Means) → IsFunction Int m → or_int (kind_of_name m) ≡ Int
-function_int (Code params gives (Some n) denied) h = sym h
-function_int (Code params gives None denied) h = absurd h
-function_int (Cell k) h = absurd h
-function_int Array h = absurd h
-function_int (Refused n) h = absurd h
 
 -- an int has the kind int
 own_int : (names : Names) (e : Expression) → IsResolved names Int e → own_kind names (plain_expression e) ≡ Int

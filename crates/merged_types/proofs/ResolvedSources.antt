@@ -83,7 +83,7 @@ value_int (Code params gives (Some n) denied) h = sym h
 value_int (Code params gives None denied) h = absurd h
 value_int (Refused n) h = absurd h
 
-function_int : (m : Means) → IsFunction Int m → or_int (kind_of_name m) ≡ Int
+pub function_int : (m : Means) → IsFunction Int m → or_int (kind_of_name m) ≡ Int
 function_int (Code params gives (Some n) denied) h = sym h
 function_int (Code params gives None denied) h = absurd h
 function_int (Cell k) h = absurd h
