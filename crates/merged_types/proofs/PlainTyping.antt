@@ -200,8 +200,8 @@ mutual
       let ws = plain_statements ys in
       let first = subst (λ (u : Scope). ArePlain (block_in s) u vs xs) (sym (same_entered vs xs (plain_declare xs) s)) (list_plain (block_in s) (entered s xs) xs h.1) in
       let second = subst (λ (u : Scope). ArePlain (block_in s) u ws ys)
-          (sym (ap (λ (u : Scope). entered u ws) (same_after_block vs xs (plain_declare xs) s) ∙ same_entered ws ys (plain_declare ys) (after_block s xs)))
-          (list_plain (block_in s) (entered (after_block s xs) ys) ys h.2) in
+      (sym (ap (λ (u : Scope). entered u ws) (same_after_block vs xs (plain_declare xs) s) ∙ same_entered ws ys (plain_declare ys) (after_block s xs)))
+      (list_plain (block_in s) (entered (after_block s xs) ys) ys h.2) in
       record { typed = (q.typed, first.typed, second.typed); tree = λ i. if_else p (q.tree i) (first.tree i) (second.tree i) }
   statement_plain b s (while_loop p c xs) h =
       let q = plain_of (names_of s) Int c h.0 in
