@@ -94,10 +94,6 @@ past_limit = 27
 abbrev pub open_comment : ℕ
 open_comment = 28
 
--- a text without the first form
-abbrev pub no_first_form : ℕ
-no_first_form = 29
-
 -- `dsu_force` or a pick outside a client's places for it
 abbrev pub client_call : ℕ
 client_call = 21

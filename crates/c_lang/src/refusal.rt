@@ -70,10 +70,6 @@ pub const PAST_LIMIT: u8 = 27;
 
 /// A comment that isn't closed.
 pub const OPEN_COMMENT: u8 = 28;
-
-/// A text without the first form.
-pub const NO_FIRST_FORM: u8 = 29;
-
 /// Why an input is refused: the number of the rule, where, and for `NOT_COVERED` the name that is
 /// not covered. No other refusal has a name.
 #[derive(Debug, Drop)]

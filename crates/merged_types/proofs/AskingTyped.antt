@@ -3,7 +3,7 @@
 use Rattle.std.proofs.Common.{◌≡◌, ℕ, Bool, false, ◌&&◌, [], length, Option, Some, None, refl, sym, ap, ap₂, ◌∙◌, subst, codes}
 use Rattle.std.specs.Option.{option_or}
 use Rattle.c_lang.specs.Names.{Bytes}
-use Rattle.c_lang.specs.Trees.{Statements, choice, if_else, none, more}
+use Rattle.c_lang.specs.Trees.{choice}
 use Rattle.c_lang.specs.declared.unit.Pos.{Pos}
 use Rattle.c_lang.specs.declared.stmt.Dest.TheVariants.{Nowhere, Fresh}
 use Rattle.c_lang.specs.declared.stmt.Kind.TheVariants.{Int}
@@ -16,7 +16,7 @@ use Rattle.c_types.specs.Typing.{IsCell, IsFresh}
 use Rattle.version_names.specs.Merged.{merged_name}
 use Rattle.version_names.specs.declared.part.Origin.TheVariants.{Xform}
 use Rattle.merged_program.specs.Names.{now_name, choice_name}
-use Rattle.merged_program.specs.Statements.{is_zero, is_set, swap, asking}
+use Rattle.merged_program.specs.Statements.{is_zero, is_set, swap, question, asking}
 use Rattle.merged_types.proofs.EntryLaws.{one, found_added, absent_from, added_behind}
 use Rattle.merged_types.proofs.Carrying.{some_is}
 use Rattle.merged_types.proofs.CarriedScopes.{HasUpdate}
@@ -27,14 +27,14 @@ use Rattle.merged_types.proofs.ResolvedTyping.{IsInt, IsVariable, IsResolved, Is
 zero_test : (names : Names) (x : Bytes) → names x ≡ Cell Int → IsResolved names Int (is_zero x)
 zero_test names x h =
     subst (λ (m : Means).
-        let k = or_int (option_or (kind_of_name m) None) in
-        (Int ≡ Int) × IsVariable k m × IsInt k) (sym h) (refl, refl, tt)
+    let k = or_int (option_or (kind_of_name m) None) in
+    (Int ≡ Int) × IsVariable k m × IsInt k) (sym h) (refl, refl, tt)
 
 pub set_test : (names : Names) (x : Bytes) → names x ≡ Cell Int → IsResolved names Int (is_set x)
 set_test names x h =
     subst (λ (m : Means).
-        let k = or_int (option_or (kind_of_name m) None) in
-        (Int ≡ Int) × IsVariable k m × IsInt k) (sym h) (refl, refl, tt)
+    let k = or_int (option_or (kind_of_name m) None) in
+    (Int ≡ Int) × IsVariable k m × IsInt k) (sym h) (refl, refl, tt)
 
 -- ---- names that the whole program has
 
@@ -49,19 +49,17 @@ set_flag b t p h = subst (λ (m : Means). IsCell m × IsInt (or_int (option_or (
 
 swap_resolved : (b : Block) (t : Scope) (p : Pos) → HasUpdate t.outside → AreResolved b t (swap p)
 swap_resolved b t p h =
-    let transform = merged_name Xform (codes "dsu_transform") in
-    (set_flag b t p (outside_means t now_name (Cell Int) h.now)
-    , ((tt, subst (λ (m : Means). IsResolvedCall t m Nowhere []) (sym (outside_means t transform (Code [] false None None) h.transform)) (refl, tt, tt)), tt))
+    let transform = merged_name Xform (codes "dsu_transform") in (
+      set_flag b t p (outside_means t now_name (Cell Int) h.now),
+      ((tt, subst (λ (m : Means). IsResolvedCall t m Nowhere []) (sym (outside_means t transform (Code [] false None None) h.transform)) (refl, tt, tt)), tt),
+    )
 
 -- ---- the whole
 
 module _ (t : Scope) (h : HasUpdate t.outside) (apart : found t.locals choice_name ≡ None) (told : is_another (found t.told choice_name) Int ≡ false)
     (ahead : found t.ahead choice_name ≡ None) (code : t.xform ≡ false) (p : Pos) (k : ℕ) where
-  abbrev told_choice : Statements
-  told_choice = more (choice p (Fresh Int choice_name) k) (more (if_else p (is_set choice_name) (swap p) none) none)
-
   abbrev within : Scope
-  within = entered t told_choice
+  within = entered t (question p k)
 
   choice_free : in_scope t choice_name ≡ None
   choice_free = ap₂ option_or h.choice apart
@@ -83,8 +81,11 @@ module _ (t : Scope) (h : HasUpdate t.outside) (apart : found t.locals choice_na
       ap meant (ap₂ option_or h.choice (found_added t.locals choice_name choice_name (Cell Int) ∙ ap (λ (o : Option Means). option_or o (one choice_name choice_name (Cell Int))) apart))
 
   pub asking_resolved : (b : Block) → IsResolvedStatement b t (asking p k)
-  asking_resolved b =
-      (zero_test (names_of t) now_name (outside_means t now_name (Cell Int) h.now)
-      , (((choice_fresh, tt), code, (refl, refl))
-      , ((set_test (names_of behind) choice_name choice_means, swap_resolved (block_in behind) (entered behind (swap p)) p h, tt), tt))
-      , tt)
+  asking_resolved b = (
+    zero_test (names_of t) now_name (outside_means t now_name (Cell Int) h.now),
+    (
+      ((choice_fresh, tt), code, (refl, refl)),
+      ((set_test (names_of behind) choice_name choice_means, swap_resolved (block_in behind) (entered behind (swap p)) p h, tt), tt),
+    ),
+    tt,
+  )

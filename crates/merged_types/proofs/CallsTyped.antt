@@ -38,7 +38,6 @@ module _ (t : Scope) (apart : found t.outside result_name ≡ None) (local : fou
     (told : is_another (found t.told result_name) Int ≡ false) (ahead : found t.ahead result_name ≡ None) (code : t.xform ≡ false)
     (p : Pos) (f : Bytes) (ks : List Kind) (v : Option ℕ) (ps : List (Kind × Bytes))
     (args : (u : Scope) → u.outside ≡ t.outside → u.locals ≡ t.locals → AreResolvedArguments (names_of u) ks (variables ps)) where
-
   handed_value : found t.outside f ≡ Some (Code ks true v None) → t.gives ≡ true → AreResolved (block_in t) (entered t (hand p true f ps)) (hand p true f ps)
   handed_value is gives =
       let u = entered t (hand p true f ps) in
@@ -51,9 +50,10 @@ module _ (t : Scope) (apart : found t.outside result_name ≡ None) (local : fou
         own = ap (λ (y : Bool). y && names_version result_name) code;
       } in
       let means : names_of w result_name ≡ Cell Int =
-      ap meant (ap₂ option_or apart (found_added t.locals result_name result_name (Cell Int) ∙ ap (λ (o : Option Means). option_or o (one result_name result_name (Cell Int))) local)) in
-      (((fresh, tt), subst (λ (m : Means). IsResolvedCall u m (Fresh Int result_name) (variables ps)) (sym (outside_means u f (Code ks true v None) is)) (refl, (refl, refl), args u refl refl))
-      , (subst (λ (y : Bool). IsResolvedReturn (names_of w) y (Some (variable result_name))) (sym gives) (subst (IsVariable Int) (sym means) refl), tt))
+      ap meant (ap₂ option_or apart (found_added t.locals result_name result_name (Cell Int) ∙ ap (λ (o : Option Means). option_or o (one result_name result_name (Cell Int))) local)) in (
+        ((fresh, tt), subst (λ (m : Means). IsResolvedCall u m (Fresh Int result_name) (variables ps)) (sym (outside_means u f (Code ks true v None) is)) (refl, (refl, refl), args u refl refl)),
+        (subst (λ (y : Bool). IsResolvedReturn (names_of w) y (Some (variable result_name))) (sym gives) (subst (IsVariable Int) (sym means) refl), tt),
+      )
 
   handed_nothing : found t.outside f ≡ Some (Code ks false v None) → AreResolved (block_in t) (entered t (hand p false f ps)) (hand p false f ps)
   handed_nothing is =
@@ -91,14 +91,16 @@ module _ (outside : Entries) (gives : Bool) (free : (n : ℕ) → n < 2 ^ 64 →
   params_free : (n : ℕ) (ks : List Kind) (locals : Entries) → n + length ks < 2 ^ 64 → AreFree n locals → AreParams (scope locals) (parameters_from n ks)
   params_free n [] locals small h = tt
   params_free n (k ∷ ks) locals small h =
-      let here = h n (omega arith) (omega (arith, small)) in
-      (record {
-        new = absent_from 0 locals (parameter_name n) here;
-        alike = refl;
-        free = ap₂ option_or (free n (omega (arith, small))) here;
-        kept = refl;
-        own = refl;
-      }, params_free (n + 1) ks (added locals (parameter_name n) (Cell k)) (omega (arith, small)) (free_next n k locals h))
+      let here = h n (omega arith) (omega (arith, small)) in (
+        record {
+          new = absent_from 0 locals (parameter_name n) here;
+          alike = refl;
+          free = ap₂ option_or (free n (omega (arith, small))) here;
+          kept = refl;
+          own = refl;
+        },
+        params_free (n + 1) ks (added locals (parameter_name n) (Cell k)) (omega (arith, small)) (free_next n k locals h),
+      )
 
   kept_there : (locals : Entries) (ps : List (Kind × Bytes)) (x : Bytes) (m : Means) → found locals x ≡ Some m → found (with_all locals ps) x ≡ Some m
   kept_there locals [] x m h = h
@@ -114,9 +116,10 @@ module _ (outside : Entries) (gives : Bool) (free : (n : ℕ) → n < 2 ^ 64 →
       let x = parameter_name n in
       let there : found (added locals x (Cell k)) x ≡ Some (Cell k) =
       found_added locals x x (Cell k) ∙ ap₂ (λ (o : Option Means) (b : Bool). option_or o (cond b (Some (Cell k)) None)) (h n (omega arith) (omega (arith, small))) (itself x) in
-      let means : names x ≡ Cell k = look x (Cell k) (free n (omega (arith, small))) (kept_there (added locals x (Cell k)) (parameters_from (n + 1) ks) x (Cell k) there) in
-      (subst (IsVariable k) (sym means) refl
-      , arguments names (n + 1) ks (added locals x (Cell k)) (omega (arith, small)) (free_next n k locals h) look)
+      let means : names x ≡ Cell k = look x (Cell k) (free n (omega (arith, small))) (kept_there (added locals x (Cell k)) (parameters_from (n + 1) ks) x (Cell k) there) in (
+        subst (IsVariable k) (sym means) refl,
+        arguments names (n + 1) ks (added locals x (Cell k)) (omega (arith, small)) (free_next n k locals h) look,
+      )
 
   result_absent : (n : ℕ) (ks : List Kind) (locals : Entries) → found locals result_name ≡ None → found (with_all locals (parameters_from n ks)) result_name ≡ None
   result_absent n [] locals h = h
@@ -139,12 +142,15 @@ module _ (outside : Entries) (gives : Bool) (free : (n : ℕ) → n < 2 ^ 64 →
         let absent = result_absent 1 ks [] refl in
         let args : (u : Scope) → u.outside ≡ outside → u.locals ≡ locals → AreResolvedArguments (names_of u) ks (variables ps) =
         λ u out loc. arguments (names_of u) 1 ks [] (omega (arith, few)) (λ m le small. refl)
-            (λ x m no_outside there.
-            ap₂ (λ (a b : Entries). meant (option_or (found a x) (found b x))) out loc ∙ ap (λ (o : Option Means). meant (option_or o (found locals x))) no_outside ∙ ap meant there) in
-        ((set_test (names_of s) now_name (outside_means s now_name (Cell Int) now)
-        , handed s result absent refl refl refl p new ks v ps args gives new_is refl
-        , handed t result absent (told_same gives p new ps) refl refl p old ks w ps args gives old_is refl)
-        , tt)
+        (λ x m no_outside there.
+        ap₂ (λ (a b : Entries). meant (option_or (found a x) (found b x))) out loc ∙ ap (λ (o : Option Means). meant (option_or o (found locals x))) no_outside ∙ ap meant there) in (
+          (
+            set_test (names_of s) now_name (outside_means s now_name (Cell Int) now),
+            handed s result absent refl refl refl p new ks v ps args gives new_is refl,
+            handed t result absent (told_same gives p new ps) refl refl p old ks w ps args gives old_is refl,
+          ),
+          tt,
+        )
       where
         told_same : (g : Bool) (p : Pos) (f : Bytes) (ps : List (Kind × Bytes)) → is_another (found (after_block (scope []) (hand p g f ps)).told result_name) Int ≡ false
         told_same true p f ps = refl

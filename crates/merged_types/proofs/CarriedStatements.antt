@@ -234,10 +234,11 @@ module _ (permits : ℕ → Bool) (ρs κs : Provenance → Bytes → Bytes) (o 
   mutual
     statement_carried : (b : Block) (s t : Scope) → IsCarriedHere s t → HasUpdate t.outside → (x : Statement) → IsResolvedStatement b s x → IsResolvedStatement b t (merged x)
     statement_carried b s t c u (skip p) h = tt
-    statement_carried b s t c u (set p d e) h =
-        (dest_carried (ρs o) (κs o) naming s t c b d h.0
-        , subst (λ (k : Kind). IsResolved (names_of t) k (renamed (ρs o) (κs o) e)) (sym (place (ρs o) (κs o) naming s t c b d e h.0 h.1))
-          (expression (ρs o) (κs o) naming s t c (place_in s d e) e h.1))
+    statement_carried b s t c u (set p d e) h = (
+      dest_carried (ρs o) (κs o) naming s t c b d h.0,
+      subst (λ (k : Kind). IsResolved (names_of t) k (renamed (ρs o) (κs o) e)) (sym (place (ρs o) (κs o) naming s t c b d e h.0 h.1))
+          (expression (ρs o) (κs o) naming s t c (place_in s d e) e h.1),
+    )
     statement_carried b s t c u (set_element p a i e) h =
         (array (ρs o) (κs o) naming s t c a h.0, expression (ρs o) (κs o) naming s t c Int i h.1, expression (ρs o) (κs o) naming s t c Int e h.2)
     statement_carried b s t c u (call p d f es) h =
@@ -245,15 +246,17 @@ module _ (permits : ℕ → Bool) (ρs κs : Provenance → Bytes → Bytes) (o 
     statement_carried b s t c u (call_by p d x es) h =
         (dest_carried (ρs o) (κs o) naming s t c b d h.0, call_by_carried (ρs o) (κs o) naming s t c b d x es h.0 h.1)
     statement_carried b s t c u (if_else p e xs ys) h =
-        let second = after_block_carried s t c (block_in s) (entered s xs) xs h.1 in
-        (expression (ρs o) (κs o) naming s t c Int e h.0
-        , at_block s t c xs (list_carried (block_in s) (entered s xs) (entered t (all_merged xs)) (entered_carried s t c xs) u xs h.1)
-        , subst (λ (q : Block). AreResolved q (entered (after_block t (all_merged xs)) (all_merged ys)) (all_merged ys)) (sym (block_carried (ρs o) (κs o) naming s t c))
-          (list_carried (block_in s) (entered (after_block s xs) ys) (entered (after_block t (all_merged xs)) (all_merged ys))
-          (entered_carried (after_block s xs) (after_block t (all_merged xs)) second ys) u ys h.2))
-    statement_carried b s t c u (while_loop p e xs) h = 
-        (expression (ρs o) (κs o) naming s t c Int e h.0
-        , at_block s t c xs (list_carried (block_in s) (entered s xs) (entered t (all_merged xs)) (entered_carried s t c xs) u xs h.1))
+        let second = after_block_carried s t c (block_in s) (entered s xs) xs h.1 in (
+          expression (ρs o) (κs o) naming s t c Int e h.0,
+          at_block s t c xs (list_carried (block_in s) (entered s xs) (entered t (all_merged xs)) (entered_carried s t c xs) u xs h.1),
+          subst (λ (q : Block). AreResolved q (entered (after_block t (all_merged xs)) (all_merged ys)) (all_merged ys)) (sym (block_carried (ρs o) (κs o) naming s t c))
+              (list_carried (block_in s) (entered (after_block s xs) ys) (entered (after_block t (all_merged xs)) (all_merged ys))
+              (entered_carried (after_block s xs) (after_block t (all_merged xs)) second ys) u ys h.2),
+        )
+    statement_carried b s t c u (while_loop p e xs) h = (
+      expression (ρs o) (κs o) naming s t c Int e h.0,
+      at_block s t c xs (list_carried (block_in s) (entered s xs) (entered t (all_merged xs)) (entered_carried s t c xs) u xs h.1),
+    )
     statement_carried b s t c u (break_loop p) h = tt
     statement_carried b s t c u (return_with p e) h = return_carried (ρs o) (κs o) naming s t c e h
     statement_carried b s t c u (assert_that p e) h = expression (ρs o) (κs o) naming s t c Int e h
@@ -270,9 +273,10 @@ module _ (permits : ℕ → Bool) (ρs κs : Provenance → Bytes → Bytes) (o 
 
     list_carried : (b : Block) (s t : Scope) → IsCarriedHere s t → HasUpdate t.outside → (xs : Statements) → AreResolved b s xs → AreResolved b t (all_merged xs)
     list_carried b s t c u none h = tt
-    list_carried b s t c u (more x xs) h =
-        (statement_carried b s t c u x h.0
-        , list_carried b (scope_after s x) (scope_after t (merged x)) (after_carried s t c b x h.0) u xs h.1)
+    list_carried b s t c u (more x xs) h = (
+      statement_carried b s t c u x h.0,
+      list_carried b (scope_after s x) (scope_after t (merged x)) (after_carried s t c b x h.0) u xs h.1,
+    )
 
   -- a body that begins here
   pub body_carried : (s t : Scope) → IsCarriedHere s t → HasUpdate t.outside → (xs : Statements) → AreResolved (block_in s) (entered s xs) xs

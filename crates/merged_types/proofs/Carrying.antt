@@ -147,10 +147,11 @@ module _ (ρ κ : Bytes → Bytes) where
     expression_carried k (logical_not a) h = (h.0, expression_carried Int a h.1)
     expression_carried k (binary o a b) h =
         let j = place_of names o a b in
-        let same : j ≡ place_of names' o (renamed ρ κ a) (renamed ρ κ b) = ap₂ (place_by o) (sym (kind_carried j a h.1)) (sym (kind_carried j b h.2)) in
-        (h.0
-        , subst (λ (l : Kind). IsResolved names' l (renamed ρ κ a)) same (expression_carried j a h.1)
-        , subst (λ (l : Kind). IsResolved names' l (renamed ρ κ b)) same (expression_carried j b h.2))
+        let same : j ≡ place_of names' o (renamed ρ κ a) (renamed ρ κ b) = ap₂ (place_by o) (sym (kind_carried j a h.1)) (sym (kind_carried j b h.2)) in (
+          h.0,
+          subst (λ (l : Kind). IsResolved names' l (renamed ρ κ a)) same (expression_carried j a h.1),
+          subst (λ (l : Kind). IsResolved names' l (renamed ρ κ b)) same (expression_carried j b h.2),
+        )
 
     pub arguments_carried : (ks : List Kind) (es : List Expression) → AreResolvedArguments names ks es → AreResolvedArguments names' ks (all_renamed ρ κ es)
     arguments_carried [] [] h = tt

@@ -68,7 +68,6 @@ place_absent (e ∷ es) x h = by_test (bytes_eq x e.0) h (place_absent es x)
     by_test true h more = absurd cc
     by_test false h more = let e = more h in omega (arith, e)
 
-
 pub absent_from : (base : ℕ) (es : Entries) (x : Bytes) → found es x ≡ None → stands_from base es x ≡ false
 absent_from base es x h =
     let e = place_absent es x h in
@@ -94,6 +93,7 @@ added_behind es x m h =
         position_or_len_push (bytes_eq x) (keys_of es) x
         ∙ ap (λ (b : Bool). cond b (length (keys_of es) + cond (bytes_eq x x) 0 1) (position_or_len (bytes_eq x) (keys_of es))) t
         ∙ ap (λ (b : Bool). length (keys_of es) + cond b 0 1) (itself x) ∙ n
+
     by_test : {place : ℕ} (b : Bool) → place ≡ length es → less_than (length es) (cond b (Some place) None) ≡ false
     by_test true p = grind (arith, nat_tests, p)
     by_test false p = refl

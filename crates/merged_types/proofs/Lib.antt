@@ -1,28 +1,28 @@
-pub mod TreesBack
-pub mod Resolution
-pub mod ResolvedTyping
-pub mod SameScopes
-pub mod ResolvedSources
-pub mod PlainTyping
-pub mod EntryLaws
-pub mod Carrying
-pub mod CarriedScopes
-pub mod AskingTyped
-pub mod CarriedStatements
-pub mod SameFlow
-pub mod ResolvedFuncs
+mod TreesBack
+mod Resolution
+mod ResolvedTyping
+mod SameScopes
+mod ResolvedSources
+mod PlainTyping
+mod EntryLaws
+mod Carrying
+mod CarriedScopes
+mod AskingTyped
+mod CarriedStatements
+mod SameFlow
+mod ResolvedFuncs
 pub mod PlainPrograms
-pub mod MergedNames
-pub mod Lookups
-pub mod MergedTables
-pub mod VersionNames
-pub mod UpdateNames
-pub mod CallsTyped
-pub mod NewNames
-pub mod MergedGlobals
-pub mod MergedTyped
-pub mod SourcePrograms
-pub mod LinkedNames
-pub mod VisibleNames
-pub mod TransformerNames
+mod MergedNames
+mod Lookups
+mod MergedTables
+mod VersionNames
+mod NewNames
+mod UpdateNames
+mod CallsTyped
+mod MergedGlobals
+mod MergedTyped
+mod SourcePrograms
+mod LinkedNames
+mod VisibleNames
+mod TransformerNames
 pub mod WorldTyped

@@ -1,13 +1,14 @@
 -- The first of a list that has a name, in lists that are made of others.
 use Rattle.std.proofs.Common.{◌≡◌, Bool, true, false, ◌&&◌, if◌then◌else◌, List, [], ◌∷◌, ◌++◌, map, Option, Some, None, is_some, refl, sym, ap, ◌∙◌}
-use Rattle.std.specs.Option.{option_map}
+use Rattle.std.specs.Option.{option_map, option_or}
 use Rattle.std.specs.List.{filter}
 use Rattle.std.specs.Str.{bytes_eq}
 use Rattle.c_lang.specs.Names.{Bytes}
 use Rattle.c_lang.specs.Programs.{func_named, global_named}
 use Rattle.c_lang.specs.declared.program.Func.{Func}
 use Rattle.c_lang.specs.declared.program.GlobalVar.{GlobalVar}
-use Rattle.merged_types.proofs.MergedNames.{by_bool, true_false, same_names, bytes_eq-refl}
+use Rattle.merged_types.proofs.EntryLaws.{by_bool, same_names}
+use Rattle.merged_types.proofs.MergedNames.{true_false}
 
 abbrev pub named : {X : Type 0} → (X → Bytes) → List X → Bytes → Option X
 named name_of [] n = None
@@ -27,22 +28,6 @@ pub global_named-is : (gs : List GlobalVar) (n : Bytes) → global_named gs n �
 global_named-is [] n = refl
 global_named-is (g ∷ gs) n = ap (λ o. if bytes_eq g.name n then Some g else o) (global_named-is gs n)
 
-abbrev pub or_else : {X : Type 0} → Option X → Option X → Option X
-or_else (Some x) o = Some x
-or_else None o = o
-
-pub or_none : {X : Type 0} (o : Option X) → or_else o None ≡ o
-or_none (Some x) = refl
-or_none None = refl
-
-pub or_some : {X : Type 0} (o p : Option X) → is_some o ≡ true → or_else o p ≡ o
-or_some (Some x) p h = refl
-or_some None p h = absurd cc
-
-pub some_mapped : {X Y : Type 0} (make : X → Y) (o : Option X) → is_some (option_map make o) ≡ is_some o
-some_mapped make (Some x) = refl
-some_mapped make None = refl
-
 module _ {X : Type 0} (name_of : X → Bytes) where
   -- ---- names that a list has
 
@@ -53,30 +38,15 @@ module _ {X : Type 0} (name_of : X → Bytes) where
       one true = refl
       one false = h
 
-  pub own_name : (x : X) (xs : List X) → is_some (named name_of (x ∷ xs) (name_of x)) ≡ true
-  own_name x xs = ap (λ b. is_some (if b then Some x else named name_of xs (name_of x))) (bytes_eq-refl (name_of x))
-
 module _ {X : Type 0} (name_of : X → Bytes) where
-  pub named-append : (xs ys : List X) (n : Bytes) → named name_of (xs ++ ys) n ≡ or_else (named name_of xs n) (named name_of ys n)
+  pub named-append : (xs ys : List X) (n : Bytes) → named name_of (xs ++ ys) n ≡ option_or (named name_of xs n) (named name_of ys n)
   named-append [] ys n = refl
   named-append (x ∷ xs) ys n = one (bytes_eq (name_of x) n) (named-append xs ys n)
     where
-      one : (b : Bool) → named name_of (xs ++ ys) n ≡ or_else (named name_of xs n) (named name_of ys n)
-          → (if b then Some x else named name_of (xs ++ ys) n) ≡ or_else (if b then Some x else named name_of xs n) (named name_of ys n)
+      one : (b : Bool) → named name_of (xs ++ ys) n ≡ option_or (named name_of xs n) (named name_of ys n)
+          → (if b then Some x else named name_of (xs ++ ys) n) ≡ option_or (if b then Some x else named name_of xs n) (named name_of ys n)
       one true e = refl
       one false e = e
-
-  some_is : (x y : X) → Some x ≡ Some y → x ≡ y
-  some_is x y e = cc
-
-  pub named-name : (xs : List X) (n : Bytes) (x : X) → named name_of xs n ≡ Some x → name_of x ≡ n
-  named-name [] n x e = absurd cc
-  named-name (y ∷ ys) n x e = one (bytes_eq (name_of y) n) refl e (named-name ys n x)
-    where
-      one : (b : Bool) → bytes_eq (name_of y) n ≡ b → (if b then Some y else named name_of ys n) ≡ Some x
-          → (named name_of ys n ≡ Some x → name_of x ≡ n) → name_of x ≡ n
-      one true h k more = ap name_of (some_is x y (sym k)) ∙ same_names (name_of y) n h
-      one false h k more = more k
 
   -- a list without those that don't pass a test of their names
   pub named-filter : (p : Bytes → Bool) (xs : List X) (n : Bytes) → p n ≡ true → named name_of (filter (λ x. p (name_of x)) xs) n ≡ named name_of xs n
@@ -128,11 +98,3 @@ module _ {X : Type 0} (name_of : X → Bytes) where
         one true e = refl
         one false e = e
     named-map (y ∷ ys) n m false h = ap (λ c. if c then Some (make y) else named name_of (map make ys) n) (h y) ∙ named-map ys n m false h
-
-    -- no name of the list is this one
-    pub named-absent : (Has : Bytes → Type 0) (ys : List Y) (n : Bytes) → ((m : Bytes) → is_some (named other ys m) ≡ true → Has m)
-        → ((y : Y) → Has (other y) → bytes_eq (name_of (make y)) n ≡ false) → named name_of (map make ys) n ≡ None
-    named-absent Has [] n within apart = refl
-    named-absent Has (y ∷ ys) n within apart =
-        ap (λ b. if b then Some (make y) else named name_of (map make ys) n) (apart y (within (other y) (own_name other y ys)))
-        ∙ named-absent Has ys n (λ m h. within m (some_behind other y ys m h)) apart

@@ -83,12 +83,13 @@ module _ (W : World) where
       (first_names : IsOutside (variable_name W origin.Old) (function_name W origin.Old) (merged_naming W origin.Old) first_outside (merged_outside W))
       (second_names : IsOutside (variable_name W origin.New) (function_name W origin.New) (merged_naming W origin.New) second_outside (merged_outside W)) where
     pub globals_merged : Each (IsGlobal first_outside) W.first.globals → Each (IsGlobal second_outside) W.second.globals → Each (IsGlobal (merged_outside W)) (merged_globals W)
-    globals_merged h k =
-        ((tt, tt)
-        , each_append (IsGlobal (merged_outside W)) (map (merged_global W origin.Old) W.first.globals) (map (merged_global W origin.New) (own_globals W))
+    globals_merged h k = (
+      (tt, tt),
+      each_append (IsGlobal (merged_outside W)) (map (merged_global W origin.Old) W.first.globals) (map (merged_global W origin.New) (own_globals W))
           (each_map (IsGlobal first_outside) (IsGlobal (merged_outside W)) (merged_global W origin.Old) (global_same origin.Old first_outside first_names) W.first.globals h)
           (each_map (λ (g : GlobalVar). IsGlobal second_outside g × (is_own_cell W g ≡ true)) (IsGlobal (merged_outside W)) (merged_global W origin.New)
-          (λ g q. global_same origin.New second_outside second_names g q.0) (own_globals W) (each_filter (IsGlobal second_outside) (is_own_cell W) W.second.globals k)))
+          (λ g q. global_same origin.New second_outside second_names g q.0) (own_globals W) (each_filter (IsGlobal second_outside) (is_own_cell W) W.second.globals k)),
+    )
 
   -- ---- room
 
@@ -120,7 +121,7 @@ module _ (W : World) where
   own_free x t =
       globals-is W version.Old origin.Old (λ y. refl) W.first.globals (cell_part W.first W.second version.New x, x)
       ∙ ap (λ (s : Bool). if same_home (links.part version.Old (is_some (global_named W.first.globals x)) s) (links.part version.New (is_some (global_named W.second.globals x)) s)
-        then option_map (merged_global W origin.Old) (global_named W.first.globals x) else None) (own_is (is_shared_cell W.first W.second x) t)
+      then option_map (merged_global W origin.Old) (global_named W.first.globals x) else None) (own_is (is_shared_cell W.first W.second x) t)
       ∙ not_both (global_named W.first.globals x) (global_named W.second.globals x) (merged_global W origin.Old)
 
   abbrev flag_alone : Entries
@@ -130,10 +131,11 @@ module _ (W : World) where
   flag_free o x = ap (λ (b : Bool). if b then Some (Cell kind.Int) else None) (cell_apart-now (cell_meaning W o x))
 
   pub new_globals_merged : AreNewGlobals [] W.first.globals → AreNewGlobals [] W.second.globals → AreNewGlobals [] (merged_globals W)
-  new_globals_merged h k =
-      (refl
-      , new_globals_append flag_alone (map (merged_global W origin.Old) W.first.globals) (map (merged_global W origin.New) (own_globals W))
+  new_globals_merged h k = (
+    refl,
+    new_globals_append flag_alone (map (merged_global W origin.Old) W.first.globals) (map (merged_global W origin.New) (own_globals W))
         (new_globals_made (variable_name W origin.Old) ((merged_naming W origin.Old).same) (merged_global W origin.Old) (λ g. refl) [] flag_alone (λ x e. flag_free origin.Old x) W.first.globals h)
         (new_globals_filtered (variable_name W origin.New) ((merged_naming W origin.New).same) is_own (merged_global W origin.New) (λ g. refl) []
         (with_globals flag_alone (map (merged_global W origin.Old) W.first.globals))
-        (λ x t e. globals_none flag_alone (map (merged_global W origin.Old) W.first.globals) (variable_name W origin.New x) (flag_free origin.New x) (own_free x t)) W.second.globals k))
+        (λ x t e. globals_none flag_alone (map (merged_global W origin.Old) W.first.globals) (variable_name W origin.New x) (flag_free origin.New x) (own_free x t)) W.second.globals k),
+  )

@@ -14,6 +14,7 @@ use Rattle.version_names.specs.Provenance as origin
 use Rattle.version_names.specs.Links.{cell_part}
 use Rattle.update_semantics.specs.UpdatingRun.{World, old_or_new, linked_by_prefix, cell_meaning}
 use Rattle.merged_program.specs.Names.{now_name, choice_name, is_foreign, kept_name, cell_name, code_name, variable_name}
+use Rattle.merged_types.proofs.EntryLaws.{by_bool, same_names, itself}
 use Rattle.merged_types.proofs.CarriedScopes.{IsNaming}
 
 -- ---- tests of names
@@ -21,12 +22,6 @@ use Rattle.merged_types.proofs.CarriedScopes.{IsNaming}
 pub to_false : (b : Bool) → (b ≡ true → ⊥) → b ≡ false
 to_false true h = absurd (h refl)
 to_false false h = refl
-
-pub same_names : (x y : Bytes) → bytes_eq x y ≡ true → x ≡ y
-same_names x y h = (bytes_eq-Decides x y).0 h
-
-pub bytes_eq-refl : (x : Bytes) → bytes_eq x x ≡ true
-bytes_eq-refl x = (bytes_eq-Decides x x).1 refl
 
 pub bytes_eq-sym : (x y : Bytes) → bytes_eq x y ≡ bytes_eq y x
 bytes_eq-sym x y = by_cases (bytes_eq x y) refl
@@ -67,10 +62,6 @@ foreign-is x h = behind_prefix x (codes "dsu_") (foreign-reserved (is_reserved x
 own-foreign : (c : ℕ) (z : Bytes) → (116 == c) ≡ false → is_foreign (own c z) ≡ true
 own-foreign c z h = ap (λ b. not (b && true)) h
 
-pub by_bool : {A : Type 0} (b : Bool) → (b ≡ true → A) → (b ≡ false → A) → A
-by_bool true f g = f refl
-by_bool false f g = g refl
-
 pub true_false : true ≡ false → ⊥
 true_false e = absurd cc
 
@@ -105,14 +96,6 @@ kept-kept x y = by_bool (is_foreign x)
     (λ h. by_bool (is_foreign y)
     (λ k. bytes_eq-sym (kept_name x) (kept_name y) ∙ kept-mixed y x k h ∙ bytes_eq-sym y x)
     (λ k. ap₂ bytes_eq (kept-free x h) (kept-free y k)))
-
--- a name that isn't reserved is apart from a kept one where it is apart from the name
-pub free-kept : (n x : Bytes) → is_reserved n ≡ false → bytes_eq n x ≡ false → bytes_eq n (kept_name x) ≡ false
-free-kept n x free apart = by_bool (is_foreign x)
-    (λ h. to_false (bytes_eq n (kept_name x)) (λ e.
-    let same : n ≡ codes "dsu_" ++ x = same_names n (kept_name x) e ∙ kept-foreign x h in
-    true_false (sym (ap is_reserved same) ∙ free)))
-    (λ h. ap (bytes_eq n) (kept-free x h) ∙ apart)
 
 -- ---- linked names
 
@@ -226,7 +209,7 @@ same_home-is home.Client home.Client e = refl
 same_home-is home.Unlinked home.Unlinked e = refl
 same_home-is h k e = absurd cc
 
-pub both_true : (a b : Bool) → a && b ≡ true → (a ≡ true) × (b ≡ true)
+both_true : (a b : Bool) → a && b ≡ true → (a ≡ true) × (b ≡ true)
 both_true true b e = (refl, e)
 both_true false b e = absurd cc
 
@@ -236,7 +219,7 @@ same_linked-is a b e =
     ap₂ (λ (h : Home) (x : Bytes). (h, x)) (same_home-is a.0 b.0 parts.0) (same_names a.1 b.1 parts.1)
 
 same_linked-refl : (a : Linked) → same_linked a a ≡ true
-same_linked-refl a = ap₂ ◌&&◌ (same_home-refl a.0) (bytes_eq-refl a.1)
+same_linked-refl a = ap₂ ◌&&◌ (same_home-refl a.0) (itself a.1)
 
 by_written : (part : Version → Bytes → Home) (x y : Bytes) → same_linked (linked_by_prefix part x) (linked_by_prefix part y) ≡ bytes_eq x y
 by_written part x y = by_bool (bytes_eq x y)

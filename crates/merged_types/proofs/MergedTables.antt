@@ -19,14 +19,11 @@ use Rattle.version_names.specs.Provenance as origin
 use Rattle.update_semantics.specs.UpdatingRun.{World, Specification, client_funcs}
 use Rattle.merged_program.specs.Names.{now_name, cell_name, code_name, variable_name}
 use Rattle.merged_program.specs.Programs.{flag, merged_global, is_own_cell, merged_globals, wrapper, old_func, new_func, xform_func, client_func, is_wrapped, merged_main, merged_funcs}
-use Rattle.merged_types.proofs.EntryLaws.{found_added}
-use Rattle.merged_types.proofs.MergedNames.{by_bool, same_names, bytes_eq-sym, same_cells, same_codes, cell_apart-now, kept-own}
-use Rattle.merged_types.proofs.Lookups.{named, name_of_func, name_of_global, func_named-is, global_named-is, or_else, named-append, named-filter, filter-passes, named-map}
+use Rattle.merged_types.proofs.EntryLaws.{found_added, by_bool, same_names, or_none}
+use Rattle.merged_types.proofs.MergedNames.{bytes_eq-sym, same_cells, same_codes, cell_apart-now, kept-own}
+use Rattle.merged_types.proofs.Lookups.{named, name_of_func, name_of_global, func_named-is, global_named-is, named-append, named-filter, filter-passes, named-map}
 
 -- ---- what is visible in a whole unit
-
-cell_of : Option GlobalVar → Option Means
-cell_of o = option_map (λ (g : GlobalVar). means_of_shape g.shape) o
 
 abbrev pub means_of_global : GlobalVar → Means
 means_of_global g = means_of_shape g.shape
@@ -38,11 +35,7 @@ or_first None make x p true y e = ap Some (sym e)
 or_first None make x p false y e = refl
 
 pub found_globals : (es : Entries) (gs : List GlobalVar) (x : Bytes) → found (with_globals es gs) x ≡ option_or (found es x) (option_map means_of_global (global_named gs x))
-found_globals es [] x = none_or (found es x)
-  where
-    none_or : (o : Option Means) → o ≡ option_or o None
-    none_or (Some m) = refl
-    none_or None = refl
+found_globals es [] x = sym (or_none (found es x))
 found_globals es (g ∷ gs) x =
     found_globals (with_global es g) gs x
     ∙ ap (λ (o : Option Means). option_or o (option_map means_of_global (global_named gs x)))
@@ -50,11 +43,7 @@ found_globals es (g ∷ gs) x =
     ∙ or_first (found es x) means_of_global g (global_named gs x) (bytes_eq g.name x) (means_of_global g) refl
 
 pub found_funcs : (es : Entries) (fs : List Func) (x : Bytes) → found (with_funcs es fs) x ≡ option_or (found es x) (option_map means_of_func (func_named fs x))
-found_funcs es [] x = none_or (found es x)
-  where
-    none_or : (o : Option Means) → o ≡ option_or o None
-    none_or (Some m) = refl
-    none_or None = refl
+found_funcs es [] x = sym (or_none (found es x))
 found_funcs es (f ∷ fs) x =
     found_funcs (with_func es f) fs x
     ∙ ap (λ (o : Option Means). option_or o (option_map means_of_func (func_named fs x)))
@@ -81,12 +70,12 @@ pub no_global_named : (make : GlobalVar → GlobalVar) (gs : List GlobalVar) (n 
 no_global_named make [] n apart = refl
 no_global_named make (g ∷ gs) n apart = ap (λ (b : Bool). if b then Some (make g) else global_named (map make gs) n) (apart g) ∙ no_global_named make gs n apart
 
-pub funcs_append : (xs ys : List Func) (n : Bytes) → func_named (xs ++ ys) n ≡ or_else (func_named xs n) (func_named ys n)
-funcs_append xs ys n = func_named-is (xs ++ ys) n ∙ named-append name_of_func xs ys n ∙ ap₂ or_else (sym (func_named-is xs n)) (sym (func_named-is ys n))
+pub funcs_append : (xs ys : List Func) (n : Bytes) → func_named (xs ++ ys) n ≡ option_or (func_named xs n) (func_named ys n)
+funcs_append xs ys n = func_named-is (xs ++ ys) n ∙ named-append name_of_func xs ys n ∙ ap₂ option_or (sym (func_named-is xs n)) (sym (func_named-is ys n))
 
-pub globals_append : (xs ys : List GlobalVar) (n : Bytes) → global_named (xs ++ ys) n ≡ or_else (global_named xs n) (global_named ys n)
+pub globals_append : (xs ys : List GlobalVar) (n : Bytes) → global_named (xs ++ ys) n ≡ option_or (global_named xs n) (global_named ys n)
 globals_append xs ys n =
-    global_named-is (xs ++ ys) n ∙ named-append name_of_global xs ys n ∙ ap₂ or_else (sym (global_named-is xs n)) (sym (global_named-is ys n))
+    global_named-is (xs ++ ys) n ∙ named-append name_of_global xs ys n ∙ ap₂ option_or (sym (global_named-is xs n)) (sym (global_named-is ys n))
 
 module _ (W : World) where
   -- ---- functions
@@ -114,16 +103,16 @@ module _ (W : World) where
   main-is k = ap (λ b. if b then Some (merged_main W W.client) else None)
       (ap (λ n. bytes_eq n (code_name k)) (main-named W.client) ∙ same_codes (home.Unlinked, codes "main") k)
 
-  append-is : (xs ys : List Func) (n : Bytes) (a b : Option Func) → func_named xs n ≡ a → func_named ys n ≡ b → func_named (xs ++ ys) n ≡ or_else a b
-  append-is xs ys n a b e f = funcs_append xs ys n ∙ ap₂ or_else e f
+  append-is : (xs ys : List Func) (n : Bytes) (a b : Option Func) → func_named xs n ≡ a → func_named ys n ≡ b → func_named (xs ++ ys) n ≡ option_or a b
+  append-is xs ys n a b e f = funcs_append xs ys n ∙ ap₂ option_or e f
 
   abbrev pub table : Linked → Option Func
   table k =
-      or_else (in_part home.Old (old_func W) W.first.funcs k)
-      (or_else (in_part home.New (new_func W) W.second.funcs k)
-      (or_else (in_part home.Both wrapper (filter (is_wrapped W) W.first.funcs) k)
-      (or_else (in_part home.Xform (xform_func W) W.xform.funcs k)
-      (or_else (in_part home.Client (client_func W) (client_funcs W) k) (at_main k)))))
+      option_or (in_part home.Old (old_func W) W.first.funcs k)
+      (option_or (in_part home.New (new_func W) W.second.funcs k)
+      (option_or (in_part home.Both wrapper (filter (is_wrapped W) W.first.funcs) k)
+      (option_or (in_part home.Xform (xform_func W) W.xform.funcs k)
+      (option_or (in_part home.Client (client_func W) (client_funcs W) k) (at_main k)))))
 
   pub table-is : (k : Linked) → func_named (merged_funcs W) (code_name k) ≡ table k
   table-is k =
@@ -165,7 +154,7 @@ module _ (W : World) where
   own_globals = filter (is_own_cell W) W.second.globals
 
   abbrev pub cells_table : Linked → Option GlobalVar
-  cells_table k = or_else (globals_in version.Old origin.Old W.first.globals k) (globals_in version.New origin.New own_globals k)
+  cells_table k = option_or (globals_in version.Old origin.Old W.first.globals k) (globals_in version.New origin.New own_globals k)
 
   not_flag : (k : Linked) → bytes_eq now_name (cell_name k) ≡ false
   not_flag k = bytes_eq-sym now_name (cell_name k) ∙ cell_apart-now k
@@ -174,7 +163,7 @@ module _ (W : World) where
   cells-is k =
       ap (λ (b : Bool). if b then Some flag else global_named (version_globals origin.Old W.first.globals ++ version_globals origin.New own_globals) (cell_name k)) (not_flag k)
       ∙ globals_append (version_globals origin.Old W.first.globals) (version_globals origin.New own_globals) (cell_name k)
-      ∙ ap₂ or_else (globals-is version.Old origin.Old (λ x. refl) W.first.globals k) (globals-is version.New origin.New (λ x. refl) own_globals k)
+      ∙ ap₂ option_or (globals-is version.Old origin.Old (λ x. refl) W.first.globals k) (globals-is version.New origin.New (λ x. refl) own_globals k)
 
   -- a global that one version alone has
   pub own_named : (x : Bytes) → is_shared_cell W.first W.second x ≡ false → global_named own_globals x ≡ global_named W.second.globals x
@@ -202,7 +191,7 @@ module _ (W : World) where
   no_cell n flag_apart apart =
       ap (λ (b : Bool). if b then Some flag else global_named (version_globals origin.Old W.first.globals ++ version_globals origin.New own_globals) n) flag_apart
       ∙ globals_append (version_globals origin.Old W.first.globals) (version_globals origin.New own_globals) n
-      ∙ ap₂ or_else
+      ∙ ap₂ option_or
       (no_global_named (merged_global W origin.Old) W.first.globals n (λ g. apart (cell_part W.first W.second version.Old g.name, g.name)))
       (no_global_named (merged_global W origin.New) own_globals n (λ g. apart (cell_part W.first W.second version.New g.name, g.name)))
 
@@ -250,19 +239,19 @@ module _ (W : World) where
   pub no_old_cell : (f : Bytes) → global_named W.first.globals f ≡ None → global_named (merged_globals W) (code_name (home.Old, f)) ≡ None
   no_old_cell f h =
       cells-is (home.Old, f)
-      ∙ ap₂ or_else (if_none (same_home (cell_part W.first W.second version.Old f) home.Old) (merged_global W origin.Old) (global_named W.first.globals f) h)
+      ∙ ap₂ option_or (if_none (same_home (cell_part W.first W.second version.Old f) home.Old) (merged_global W origin.Old) (global_named W.first.globals f) h)
       (if_not (same_home (cell_part W.first W.second version.New f) home.Old) _ (part_new_old (in_version version.New f) (is_shared_cell W.first W.second f)))
 
   pub no_new_cell : (f : Bytes) → global_named W.second.globals f ≡ None → global_named (merged_globals W) (code_name (home.New, f)) ≡ None
   no_new_cell f h =
       cells-is (home.New, f)
-      ∙ ap₂ or_else
+      ∙ ap₂ option_or
       (if_not (same_home (cell_part W.first W.second version.Old f) home.New) _ (part_old_new (in_version version.Old f) (is_shared_cell W.first W.second f)))
       (if_none (same_home (cell_part W.first W.second version.New f) home.New) (merged_global W origin.New) (global_named own_globals f) (own_unnamed f h))
 
   pub no_xform_cell : (f : Bytes) → global_named (merged_globals W) (code_name (home.Xform, f)) ≡ None
   no_xform_cell f =
       cells-is (home.Xform, f)
-      ∙ ap₂ or_else
+      ∙ ap₂ option_or
       (if_not (same_home (cell_part W.first W.second version.Old f) home.Xform) _ (part_xform version.Old (in_version version.Old f) (is_shared_cell W.first W.second f)))
       (if_not (same_home (cell_part W.first W.second version.New f) home.Xform) _ (part_xform version.New (in_version version.New f) (is_shared_cell W.first W.second f)))

@@ -84,9 +84,11 @@ new_globals_append seen (x ∷ xs) ys h k = (h.0, new_globals_append (with_globa
 -- with less seen before
 pub new_within : (seen less : Entries) → ((x : Bytes) → found seen x ≡ None → found less x ≡ None) → (fs : List Func) → AreNew seen fs → AreNew less fs
 new_within seen less sub [] h = tt
-new_within seen less sub (f ∷ fs) h =
-    (sub f.name h.0, new_within (with_func seen f) (with_func less f)
-    (λ x e. let parts = added_none seen f.name (means_of_func f) x e in none_added less f.name (means_of_func f) x (sub x parts.0) parts.1) fs h.1)
+new_within seen less sub (f ∷ fs) h = (
+  sub f.name h.0,
+  new_within (with_func seen f) (with_func less f)
+      (λ x e. let parts = added_none seen f.name (means_of_func f) x e in none_added less f.name (means_of_func f) x (sub x parts.0) parts.1) fs h.1,
+)
 
 -- ---- functions under other names
 
@@ -160,12 +162,13 @@ pub new_globals_made : (name : Bytes → Bytes) → ((x y : Bytes) → bytes_eq 
     → ((g : GlobalVar) → (make g).name ≡ name g.name) → (seen seen' : Entries) → ((x : Bytes) → found seen x ≡ None → found seen' (name x) ≡ None)
     → (gs : List GlobalVar) → AreNewGlobals seen gs → AreNewGlobals seen' (map make gs)
 new_globals_made name same make names seen seen' h [] k = tt
-new_globals_made name same make names seen seen' h (g ∷ gs) k =
-    (ap (found seen') (names g) ∙ h g.name k.0
-    , new_globals_made name same make names (with_global seen g) (with_global seen' (make g))
+new_globals_made name same make names seen seen' h (g ∷ gs) k = (
+  ap (found seen') (names g) ∙ h g.name k.0,
+  new_globals_made name same make names (with_global seen g) (with_global seen' (make g))
       (λ x e. let parts = added_none seen g.name (means_of_global g) x e in
       ap (λ (n : Bytes). found (added seen' n (means_of_global (make g))) (name x)) (names g)
-      ∙ none_added seen' (name g.name) (means_of_global (make g)) (name x) (h x parts.0) (same x g.name ∙ parts.1)) gs k.1)
+      ∙ none_added seen' (name g.name) (means_of_global (make g)) (name x) (h x parts.0) (same x g.name ∙ parts.1)) gs k.1,
+)
 
 -- ---- functions by their names
 
@@ -183,9 +186,10 @@ IsOwn seen fs f = (found seen f.name ≡ None) × (func_named fs f.name ≡ Some
 pub each_own : (seen : Entries) (fs : List Func) → AreNew seen fs → Each (IsOwn seen fs) fs
 unfolding IsOwn
 each_own seen [] h = tt
-each_own seen (f ∷ fs) h =
-    ((h.0, ap (λ (b : Bool). if b then Some f else func_named fs f.name) (itself f.name))
-    , behind fs (each_own (with_func seen f) fs h.1))
+each_own seen (f ∷ fs) h = (
+  (h.0, ap (λ (b : Bool). if b then Some f else func_named fs f.name) (itself f.name)),
+  behind fs (each_own (with_func seen f) fs h.1),
+)
   where
     behind : (gs : List Func) → Each (IsOwn (with_func seen f) fs) gs → Each (IsOwn seen (f ∷ fs)) gs
     behind [] k = tt
@@ -207,20 +211,23 @@ protos_typed whole seen [] look h k = tt
 protos_typed whole seen (f ∷ fs) look h k =
     let there : found (with_func seen f) f.name ≡ Some (means_of_func f) =
     found_added seen f.name f.name (means_of_func f)
-    ∙ ap₂ (λ (o : Option Means) (b : Bool). option_or o (cond b (Some (means_of_func f)) None)) h.0 (itself f.name) in
-    (record {
-      matches = subst (λ (o : Option Means). IsMatch o (declared f)) (sym (look f.name (means_of_func f) (kept_seen (with_func seen f) fs f.name (means_of_func f) there))) (refl, refl);
-      few = k.0.0;
-      narrow = k.0.1;
-    }, protos_typed whole (with_func seen f) fs look h.1 k.1)
+    ∙ ap₂ (λ (o : Option Means) (b : Bool). option_or o (cond b (Some (means_of_func f)) None)) h.0 (itself f.name) in (
+      record {
+        matches = subst (λ (o : Option Means). IsMatch o (declared f)) (sym (look f.name (means_of_func f) (kept_seen (with_func seen f) fs f.name (means_of_func f) there))) (refl, refl);
+        few = k.0.0;
+        narrow = k.0.1;
+      },
+      protos_typed whole (with_func seen f) fs look h.1 k.1,
+    )
 
 -- ---- the one `main`
 
 pub no_other_main : (seen : Entries) (fs : List Func) → (found seen (codes "main") ≡ None → ⊥) → AreNew seen fs → Each (λ (f : Func). is_main f.name ≡ false) fs
 no_other_main seen [] s h = tt
-no_other_main seen (f ∷ fs) s h =
-    (by_bool (is_main f.name) (λ e. absurd (s (subst (λ (x : Bytes). found seen x ≡ None) (same_names f.name (codes "main") e) h.0))) (λ e. e)
-    , no_other_main (with_func seen f) fs (λ e. s (added_none seen f.name (means_of_func f) (codes "main") e).0) h.1)
+no_other_main seen (f ∷ fs) s h = (
+  by_bool (is_main f.name) (λ e. absurd (s (subst (λ (x : Bytes). found seen x ≡ None) (same_names f.name (codes "main") e) h.0))) (λ e. e),
+  no_other_main (with_func seen f) fs (λ e. s (added_none seen f.name (means_of_func f) (codes "main") e).0) h.1,
+)
 
 not_started : (fs : List Func) → Each (λ (f : Func). is_main f.name ≡ false) fs → has_main fs ≡ false
 not_started [] h = refl
@@ -237,7 +244,7 @@ or_right false b h k = h
 pub IsStartIfMain : Func → Type 0
 IsStartIfMain f = is_main f.name ≡ true → (f.gives ≡ true) × (f.params ≡ [])
 
-empty_is : {X : Type 0} (xs : List X) → is_empty xs ≡ true → xs ≡ []
+pub empty_is : {X : Type 0} (xs : List X) → is_empty xs ≡ true → xs ≡ []
 empty_is [] h = refl
 empty_is (x ∷ xs) h = absurd cc
 
@@ -253,11 +260,13 @@ main_starts seen [] h s = absurd cc
 main_starts seen (f ∷ fs) h s = by_bool (is_main f.name)
     (λ e.
     let others = no_other_main (with_func seen f) fs
-        (λ k. let parts = added_none seen f.name (means_of_func f) (codes "main") k in
-        true_false (sym (bytes_eq-sym (codes "main") f.name ∙ e) ∙ parts.1)) h.1 in
+    (λ k. let parts = added_none seen f.name (means_of_func f) (codes "main") k in
+    true_false (sym (bytes_eq-sym (codes "main") f.name ∙ e) ∙ parts.1)) h.1 in
     (λ _. started f (or_left (is_start f) (has_main fs) s (not_started fs others)), vacuous fs others))
-    (λ e. (λ k. absurd (true_false (sym k ∙ e))
-    , main_starts (with_func seen f) fs h.1 (or_right (is_start f) (has_main fs) s (ap (λ (a : Bool). a && f.gives && is_empty f.params) e))))
+    (λ e. (
+      λ k. absurd (true_false (sym k ∙ e)),
+      main_starts (with_func seen f) fs h.1 (or_right (is_start f) (has_main fs) s (ap (λ (a : Bool). a && f.gives && is_empty f.params) e)),
+    ))
   where
     vacuous : (gs : List Func) → Each (λ (g : Func). is_main g.name ≡ false) gs → Each IsStartIfMain gs
     vacuous [] k = tt
@@ -306,9 +315,10 @@ IsOwnGlobal gs g = global_named gs g.name ≡ Some g
 pub each_own_global : (seen : Entries) (gs : List GlobalVar) → AreNewGlobals seen gs → Each (λ (g : GlobalVar). (found seen g.name ≡ None) × IsOwnGlobal gs g) gs
 unfolding IsOwnGlobal
 each_own_global seen [] h = tt
-each_own_global seen (f ∷ fs) h =
-    ((h.0, ap (λ (b : Bool). if b then Some f else global_named fs f.name) (itself f.name))
-    , behind fs (each_own_global (with_global seen f) fs h.1))
+each_own_global seen (f ∷ fs) h = (
+  (h.0, ap (λ (b : Bool). if b then Some f else global_named fs f.name) (itself f.name)),
+  behind fs (each_own_global (with_global seen f) fs h.1),
+)
   where
     behind : (gs : List GlobalVar) → Each (λ (g : GlobalVar). (found (with_global seen f) g.name ≡ None) × IsOwnGlobal fs g) gs → Each (λ (g : GlobalVar). (found seen g.name ≡ None) × IsOwnGlobal (f ∷ fs) g) gs
     behind [] k = tt

@@ -35,9 +35,10 @@ all_cells (g ∷ gs) = cells_of g.shape + all_cells gs
 pub globals_typed : (outside seen : Entries) (room : ℕ) (gs : List GlobalVar) → AreNewGlobals seen gs
     → Each (λ (g : GlobalVar). IsInitial outside g.shape × IsHeld g.shape) gs → all_cells gs ≤ room → AreTypedGlobals outside seen room gs
 globals_typed outside seen room [] new each fit = tt
-globals_typed outside seen room (g ∷ gs) new each fit =
-    (record { new = new.0; initial = each.0.0; held = each.0.1; cells = omega (arith, fit) }
-    , globals_typed outside (with_global seen g) (room - cells_of g.shape) gs new.1 each.1 (omega (arith, fit)))
+globals_typed outside seen room (g ∷ gs) new each fit = (
+  record { new = new.0; initial = each.0.0; held = each.0.1; cells = omega (arith, fit) },
+  globals_typed outside (with_global seen g) (room - cells_of g.shape) gs new.1 each.1 (omega (arith, fit)),
+)
 
 -- ---- functions in plain form
 

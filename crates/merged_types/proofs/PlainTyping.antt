@@ -17,7 +17,7 @@ use Rattle.c_types.specs.Plain.{plain_expression, plain_statement, plain_stateme
 use Rattle.c_types.proofs.StatementsTyped.{array_kind}
 use Rattle.merged_types.proofs.Resolution.{name_tree, literal_tree, tree, trees, call_tree, statement_tree, list_tree}
 use Rattle.merged_types.proofs.ResolvedTyping.{IsInt, IsVariable, IsResolved, AreResolvedArguments, IsResolvedCall, IsResolvedCallBy, IsResolvedReturn, IsResolvedStatement, AreResolved}
-use Rattle.merged_types.proofs.ResolvedSources.{place_by}
+use Rattle.merged_types.proofs.ResolvedSources.{place_by, function_int}
 use Rattle.merged_types.proofs.SameScopes.{DeclaresSame, DeclareSame, declare_nothing, declare_more, declares_if, declares_while, same_after, same_entered, same_after_block}
 
 -- ---- expressions
@@ -81,13 +81,6 @@ variable_int (Cell k) h = sym h
 variable_int Array h = absurd h
 variable_int (Code params gives value denied) h = absurd h
 variable_int (Refused n) h = absurd h
-
-function_int : (m : Means) → IsFunction Int m → or_int (kind_of_name m) ≡ Int
-function_int (Code params gives (Some n) denied) h = sym h
-function_int (Code params gives None denied) h = absurd h
-function_int (Cell k) h = absurd h
-function_int Array h = absurd h
-function_int (Refused n) h = absurd h
 
 -- an int has the kind int
 own_int : (names : Names) (e : Expression) → IsResolved names Int e → own_kind names (plain_expression e) ≡ Int
@@ -207,8 +200,8 @@ mutual
       let ws = plain_statements ys in
       let first = subst (λ (u : Scope). ArePlain (block_in s) u vs xs) (sym (same_entered vs xs (plain_declare xs) s)) (list_plain (block_in s) (entered s xs) xs h.1) in
       let second = subst (λ (u : Scope). ArePlain (block_in s) u ws ys)
-          (sym (ap (λ (u : Scope). entered u ws) (same_after_block vs xs (plain_declare xs) s) ∙ same_entered ws ys (plain_declare ys) (after_block s xs)))
-          (list_plain (block_in s) (entered (after_block s xs) ys) ys h.2) in
+      (sym (ap (λ (u : Scope). entered u ws) (same_after_block vs xs (plain_declare xs) s) ∙ same_entered ws ys (plain_declare ys) (after_block s xs)))
+      (list_plain (block_in s) (entered (after_block s xs) ys) ys h.2) in
       record { typed = (q.typed, first.typed, second.typed); tree = λ i. if_else p (q.tree i) (first.tree i) (second.tree i) }
   statement_plain b s (while_loop p c xs) h =
       let q = plain_of (names_of s) Int c h.0 in

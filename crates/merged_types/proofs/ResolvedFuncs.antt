@@ -157,9 +157,10 @@ module _ (permits : ℕ → Bool) (ρs κs : Provenance → Bytes → Bytes) (o 
 
   are_params_carried : (s t : Scope) (ps : List (Kind × Bytes)) → IsCarriedHere s t → AreParams s ps → AreParams t (map renamed_param ps)
   are_params_carried s t [] c h = tt
-  are_params_carried s t (p ∷ ps) c h =
-      (fresh_carried (ρs o) (κs o) naming s t c params_block p.0 p.1 h.0
-      , are_params_carried (with_param s p) (with_param t (renamed_param p)) ps (param_carried s t p c) h.1)
+  are_params_carried s t (p ∷ ps) c h = (
+    fresh_carried (ρs o) (κs o) naming s t c params_block p.0 p.1 h.0,
+    are_params_carried (with_param s p) (with_param t (renamed_param p)) ps (param_carried s t p c) h.1,
+  )
 
   module _ (outside outside' : Entries) (xform : Bool) (c : IsOutside (ρs o) (κs o) naming outside outside') (u : HasUpdate outside')
       (f : Func) (h : IsResolvedFunc outside xform f) (name : Bytes) where
@@ -192,7 +193,11 @@ module _ (permits : ℕ → Bool) (ρs κs : Provenance → Bytes → Bytes) (o 
 
     abbrev pub merged_with : (behind : List Stmt) → Func
     merged_with behind = record {
-      name = name; params = map renamed_param f.params; gives = f.gives; body = stmts_of (merged (body_of f.body)) ++ behind; pos = f.pos;
+      name = name;
+      params = map renamed_param f.params;
+      gives = f.gives;
+      body = stmts_of (merged (body_of f.body)) ++ behind;
+      pos = f.pos;
     }
 
     body_is : body_of f.body ≡ h.tree

@@ -69,10 +69,11 @@ expression_resolved names k (negation a) h = (h.0, expression_resolved names Int
 expression_resolved names k (logical_not a) h = (h.0, expression_resolved names Int a h.1)
 expression_resolved names k (binary o a b) h =
     let j = place_of names o a b in
-    let same : place_of names o (tree names j a) (tree names j b) ≡ j = ap₂ (place_by o) (kind_tree names j a h.1) (kind_tree names j b h.2) in
-    (h.0
-    , subst (λ (l : Kind). IsResolved names l (tree names j a)) (sym same) (expression_resolved names j a h.1)
-    , subst (λ (l : Kind). IsResolved names l (tree names j b)) (sym same) (expression_resolved names j b h.2))
+    let same : place_of names o (tree names j a) (tree names j b) ≡ j = ap₂ (place_by o) (kind_tree names j a h.1) (kind_tree names j b h.2) in (
+      h.0,
+      subst (λ (l : Kind). IsResolved names l (tree names j a)) (sym same) (expression_resolved names j a h.1),
+      subst (λ (l : Kind). IsResolved names l (tree names j b)) (sym same) (expression_resolved names j b h.2),
+    )
 
 -- ---- arguments
 
@@ -83,7 +84,7 @@ value_int (Code params gives (Some n) denied) h = sym h
 value_int (Code params gives None denied) h = absurd h
 value_int (Refused n) h = absurd h
 
-function_int : (m : Means) → IsFunction Int m → or_int (kind_of_name m) ≡ Int
+pub function_int : (m : Means) → IsFunction Int m → or_int (kind_of_name m) ≡ Int
 function_int (Code params gives (Some n) denied) h = sym h
 function_int (Code params gives None denied) h = absurd h
 function_int (Cell k) h = absurd h
@@ -182,25 +183,29 @@ mutual
       let k = place_in s d e in
       let same : place_in s d (tree (names_of s) k e) ≡ k = ap (λ (o : Option Kind). or_int (option_or (kind_of_dest s d) o)) (kind_tree (names_of s) k e h.1) in
       (h.0, subst (λ (l : Kind). IsResolved (names_of s) l (tree (names_of s) k e)) (sym same) (expression_resolved (names_of s) k e h.1))
-  statement_resolved b s (set_element p a i e) h =
-      (h.0, expression_resolved (names_of s) Int i h.1
-      , subst (λ (k : Kind). IsResolved (names_of s) Int (tree (names_of s) k e)) (sym (array_kind (names_of s) (names_of s a) e h.0)) (expression_resolved (names_of s) Int e h.2))
+  statement_resolved b s (set_element p a i e) h = (
+    h.0,
+    expression_resolved (names_of s) Int i h.1,
+    subst (λ (k : Kind). IsResolved (names_of s) Int (tree (names_of s) k e)) (sym (array_kind (names_of s) (names_of s a) e h.0)) (expression_resolved (names_of s) Int e h.2),
+  )
   statement_resolved b s (call p d f es) h = call_resolved b s (names_of s f) p d f es refl h h.1
   statement_resolved b s (call_by p d x es) h = (h.0, call_by_resolved s (names_of s x) d es h.1)
   statement_resolved b s (if_else p c xs ys) h =
       let vs = list_tree (entered s xs) xs in
       let first : DeclareSame vs xs = trees_declare (entered s xs) xs in
       let ws = list_tree (entered (after_block s xs) ys) ys in
-      let second : DeclareSame ws ys = trees_declare (entered (after_block s xs) ys) ys in
-      (expression_resolved (names_of s) Int c h.0
-      , subst (λ (t : Scope). AreResolved (block_in s) t vs) (sym (same_entered vs xs first s)) (list_resolved (block_in s) (entered s xs) xs h.1)
-      , subst (λ (t : Scope). AreResolved (block_in s) t ws) (sym (ap (λ (t : Scope). entered t ws) (same_after_block vs xs first s) ∙ same_entered ws ys second (after_block s xs)))
-        (list_resolved (block_in s) (entered (after_block s xs) ys) ys h.2))
+      let second : DeclareSame ws ys = trees_declare (entered (after_block s xs) ys) ys in (
+        expression_resolved (names_of s) Int c h.0,
+        subst (λ (t : Scope). AreResolved (block_in s) t vs) (sym (same_entered vs xs first s)) (list_resolved (block_in s) (entered s xs) xs h.1),
+        subst (λ (t : Scope). AreResolved (block_in s) t ws) (sym (ap (λ (t : Scope). entered t ws) (same_after_block vs xs first s) ∙ same_entered ws ys second (after_block s xs)))
+            (list_resolved (block_in s) (entered (after_block s xs) ys) ys h.2),
+      )
   statement_resolved b s (while_loop p c xs) h =
       let vs = list_tree (entered s xs) xs in
-      let first : DeclareSame vs xs = trees_declare (entered s xs) xs in
-      (expression_resolved (names_of s) Int c h.0
-      , subst (λ (t : Scope). AreResolved (block_in s) t vs) (sym (same_entered vs xs first s)) (list_resolved (block_in s) (entered s xs) xs h.1))
+      let first : DeclareSame vs xs = trees_declare (entered s xs) xs in (
+        expression_resolved (names_of s) Int c h.0,
+        subst (λ (t : Scope). AreResolved (block_in s) t vs) (sym (same_entered vs xs first s)) (list_resolved (block_in s) (entered s xs) xs h.1),
+      )
   statement_resolved b s (break_loop p) h = tt
   statement_resolved b s (return_with p e) h = return_resolved (names_of s) s.gives e h
   statement_resolved b s (assert_that p e) h = expression_resolved (names_of s) Int e h
@@ -213,7 +218,8 @@ mutual
 
   pub list_resolved : (b : Block) (s : Scope) (ts : Statements) → AreTyped b s ts → AreResolved b s (list_tree s ts)
   list_resolved b s none h = tt
-  list_resolved b s (more t ts) h =
-      (statement_resolved b s t h.0
-      , subst (λ (u : Scope). AreResolved b u (list_tree (scope_after s t) ts)) (sym (same_after (statement_tree s t) t s (tree_declares s t)))
-        (list_resolved b (scope_after s t) ts h.1))
+  list_resolved b s (more t ts) h = (
+    statement_resolved b s t h.0,
+    subst (λ (u : Scope). AreResolved b u (list_tree (scope_after s t) ts)) (sym (same_after (statement_tree s t) t s (tree_declares s t)))
+        (list_resolved b (scope_after s t) ts h.1),
+  )

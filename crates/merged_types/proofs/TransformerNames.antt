@@ -35,12 +35,11 @@ use Rattle.state_xform.specs.Visible.{Parts, own_func, with_own_funcs, version_f
 use Rattle.state_xform.specs.Transformers.{AreOwnFuncs}
 use Rattle.merged_program.specs.Names.{cell_name, code_name, variable_name, function_name}
 use Rattle.merged_program.specs.Programs.{xform_func}
-use Rattle.merged_types.proofs.EntryLaws.{by_bool, same_names, itself}
+use Rattle.merged_types.proofs.EntryLaws.{by_bool, same_names, itself, or_none}
 use Rattle.merged_types.proofs.Carrying.{IsKeptCell, IsKeptCode}
 use Rattle.merged_types.proofs.CarriedScopes.{IsOutside}
 use Rattle.merged_types.proofs.MergedNames.{true_false, merged_naming}
 use Rattle.merged_types.proofs.MergedTables.{means_of_global, no_xform_cell}
-use Rattle.merged_types.proofs.Lookups.{or_none}
 use Rattle.merged_types.proofs.LinkedNames.{linked_both, linked_old, linked_new, linked_nowhere}
 use Rattle.merged_types.proofs.VersionNames.{merged_outside, kept_some, shape_no_code, kept_func, same_means, kinds_merged, old_cell, shared_cell, new_alone, nowhere, code_found, old_code, new_code, wrapper_code, shared_code}
 use Rattle.merged_types.proofs.PlainPrograms.{AreNew, Each, IsResolvedProgram}
@@ -154,9 +153,11 @@ module _ (W : World) (p : Program) (h : SeesVersions W p) where
 
   code_entry : (y : Bytes) (k : Linked) (d : Func) → func_named p.funcs y ≡ None → linked_by_prefix (code_part W.first W.second) y ≡ k
       → found outside (code_name k) ≡ Some (means_of_func d) → IsEntry y (Some (version_func d))
-  code_entry y k d free e there =
-      (tt, kept_func d (Some refused.transformer_effect) (found outside (κ y))
-      (ap₂ (λ (o : Option Func) (l : Linked). found outside (code_name (if is_some o then (home.Xform, y) else l))) (none_own y free) e ∙ there))
+  code_entry y k d free e there = (
+    tt,
+    kept_func d (Some refused.transformer_effect) (found outside (κ y))
+        (ap₂ (λ (o : Option Func) (l : Linked). found outside (code_name (if is_some o then (home.Xform, y) else l))) (none_own y free) e ∙ there),
+  )
 
   -- ---- the transformer's own functions
 
@@ -167,9 +168,13 @@ module _ (W : World) (p : Program) (h : SeesVersions W p) where
       let is : found outside (code_name (home.Xform, f.name)) ≡ Some (means_of_func f) =
       code_found W (home.Xform, f.name) (xform_func W (resolved_func seen true f)) (means_of_func f) (no_xform_cell W f.name)
       (or_none (option_map (xform_func W) (func_named W.xform.funcs f.name)) ∙ ap (option_map (xform_func W)) there)
-      (same_means (xform_func W (resolved_func seen true f)) f (kinds_merged W origin.Xform f.params) refl) in
-      (tt, (arity_as_value (kinds_of f.params) f.gives
-      , (ap (λ (o : Option Func). found outside (code_name (if is_some o then (home.Xform, f.name) else linked_by_prefix (code_part W.first W.second) f.name))) there ∙ is, tt)))
+      (same_means (xform_func W (resolved_func seen true f)) f (kinds_merged W origin.Xform f.params) refl) in (
+        tt,
+        (
+          arity_as_value (kinds_of f.params) f.gives,
+          (ap (λ (o : Option Func). found outside (code_name (if is_some o then (home.Xform, f.name) else linked_by_prefix (code_part W.first W.second) f.name))) there ∙ is, tt),
+        ),
+      )
 
   own_entries : (fs : List Func) → Each (IsOwn [] p.funcs) fs → Each (λ (f : Func). IsEntry f.name (Some (own_func f))) fs
   own_entries [] k = tt

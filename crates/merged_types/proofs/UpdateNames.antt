@@ -1,7 +1,7 @@
 -- What the merged program has for updates and wrappers, and names that nothing in it has.
 use Rattle.std.proofs.Common.{◌≡◌, ◌<◌, ◌^◌, ℕ, Bool, true, false, not, List, [], ◌∷◌, ◌++◌, map, Option, Some, None, refl, sym, ap, ap₂, ◌∙◌, subst, arith, codes}
 use Rattle.std.specs.Prelude.{if◌then◌else◌}
-use Rattle.std.specs.Option.{option_map}
+use Rattle.std.specs.Option.{option_map, option_or}
 use Rattle.std.specs.List.{filter}
 use Rattle.std.specs.Fmt.{decimal}
 use Rattle.std.specs.Str.{bytes_eq}
@@ -25,10 +25,11 @@ use Rattle.update_semantics.specs.UpdatingRun.{World, Specification, client_func
 use Rattle.merged_program.specs.Names.{now_name, choice_name, result_name, parameter_name, cell_name, kept_name}
 use Rattle.merged_program.specs.Programs.{merged_globals, merged_param, wrapper, old_func, new_func, xform_func, client_func, is_wrapped, merged_main, merged_funcs}
 use Rattle.state_xform.specs.Transformers.{is_start}
-use Rattle.merged_types.proofs.MergedNames.{to_false, same_names, kept-own}
-use Rattle.merged_types.proofs.Lookups.{or_else, or_none}
+use Rattle.merged_types.proofs.EntryLaws.{or_none, same_names}
+use Rattle.merged_types.proofs.MergedNames.{to_false, kept-own}
 use Rattle.merged_types.proofs.MergedTables.{either_means, found_outside, no_func_named, funcs_append, no_cell, no_xform_cell}
 use Rattle.merged_types.proofs.CarriedScopes.{HasUpdate}
+use Rattle.merged_types.proofs.NewNames.{empty_is}
 use Rattle.merged_types.proofs.VersionNames.{merged_outside, code_found}
 
 -- ---- parameters' names
@@ -63,7 +64,7 @@ module _ (W : World) where
   main_apart (Some c) n h = h
 
   two_none : (xs ys : List Func) (n : Bytes) → func_named xs n ≡ None → func_named ys n ≡ None → func_named (xs ++ ys) n ≡ None
-  two_none xs ys n h k = funcs_append xs ys n ∙ ap₂ or_else h k
+  two_none xs ys n h k = funcs_append xs ys n ∙ ap₂ option_or h k
 
   pub no_func : (n : Bytes) → IsApart n → bytes_eq (codes "main") n ≡ false → func_named (merged_funcs W) n ≡ None
   no_func n h main =
@@ -111,10 +112,6 @@ module _ (W : World) where
   parameter_free n small = free_name (parameter_name n) refl (parameter_apart n small) (λ x. kept-own 97 (decimal n) x refl refl) refl
 
   -- ---- the update
-
-  empty_is : {X : Type 0} (xs : List X) → is_empty xs ≡ true → xs ≡ []
-  empty_is [] h = refl
-  empty_is (x ∷ xs) h = absurd cc
 
   not_true : (b : Bool) → not b ≡ true → b ≡ false
   not_true true h = absurd cc

@@ -1,6 +1,6 @@
 -- What a version's names stand for in its merged code.
 use Rattle.std.proofs.Common.{◌≡◌, ℕ, ◌+◌, Bool, true, false, if◌then◌else◌, List, [], ◌∷◌, map, Option, Some, None, is_some, refl, sym, ap, ap₂, ◌∙◌, subst, arith, codes}
-use Rattle.std.specs.Option.{option_map}
+use Rattle.std.specs.Option.{option_map, option_or}
 use Rattle.std.specs.List.{filter}
 use Rattle.std.specs.Str.{bytes_eq}
 use Rattle.std.proofs.lemmas.Bool.Decides.{nat_tests}
@@ -26,9 +26,9 @@ use Rattle.version_names.specs.Provenance as origin
 use Rattle.update_semantics.specs.UpdatingRun.{World}
 use Rattle.merged_program.specs.Names.{cell_name, code_name, kept_name, variable_name, function_name}
 use Rattle.merged_program.specs.Programs.{parameters_from, wrapper, merged_shape, merged_global, merged_globals, merged_param, merged_funcs, merged_main, old_func, new_func, is_wrapped}
-use Rattle.merged_types.proofs.EntryLaws.{by_bool, same_names}
+use Rattle.merged_types.proofs.EntryLaws.{by_bool, same_names, or_none}
 use Rattle.merged_types.proofs.MergedNames.{same_home-refl, merged_naming}
-use Rattle.merged_types.proofs.Lookups.{name_of_func, func_named-is, named-filter, or_else, or_none}
+use Rattle.merged_types.proofs.Lookups.{name_of_func, func_named-is, named-filter}
 use Rattle.merged_types.proofs.MergedTables.{means_of_global, either_means, found_outside, table, table-is, cells_table, cells-is, own_globals, own_named, own_unnamed, no_wrapper_cell, no_old_cell, no_new_cell}
 use Rattle.merged_types.proofs.Carrying.{IsKeptCell, IsKeptCode, IsKeptValue}
 use Rattle.merged_types.proofs.CarriedScopes.{IsOutside}
@@ -117,7 +117,7 @@ module _ (W : World) where
       let part = cell_part W.first W.second version.Old x in
       cell_found (part, x) (merged_global W origin.Old g) (means_of_global g)
       (ap₂ (λ (b : Bool) (o : Option GlobalVar).
-      or_else (if b then option_map (merged_global W origin.Old) o else None) (if same_home (cell_part W.first W.second version.New x) part then option_map (merged_global W origin.New) (global_named (own_globals W) x) else None))
+      option_or (if b then option_map (merged_global W origin.Old) o else None) (if same_home (cell_part W.first W.second version.New x) part then option_map (merged_global W origin.New) (global_named (own_globals W) x) else None))
       (same_home-refl part) e)
       (shape_same origin.Old g.shape)
 
@@ -142,7 +142,7 @@ module _ (W : World) where
   new_alone x g s e =
       let here : part_of version.New (is_some (global_named W.second.globals x)) (is_shared_cell W.first W.second x) ≡ home.New = ap₂ (part_of version.New) (ap is_some e) s in
       cell_found (home.New, x) (merged_global W origin.New g) (means_of_global g)
-      (ap₂ or_else (not_old (is_some (global_named W.first.globals x)))
+      (ap₂ option_or (not_old (is_some (global_named W.first.globals x)))
       (ap₂ (λ (p : Home) (o : Option GlobalVar). if same_home p home.New then option_map (merged_global W origin.New) o else None) here (own_named W x s ∙ e)))
       (shape_same origin.New g.shape)
     where
@@ -172,7 +172,7 @@ module _ (W : World) where
 
   pub nowhere_cell : (x : Bytes) → global_named (merged_globals W) (kept_name x) ≡ None
   nowhere_cell x =
-      cells-is W (home.Unlinked, x) ∙ ap₂ or_else
+      cells-is W (home.Unlinked, x) ∙ ap₂ option_or
       (unlinked_in version.Old (is_shared_cell W.first W.second x) (global_named W.first.globals x) (merged_global W origin.Old) (global_named W.first.globals x) (λ h. h))
       (unlinked_in version.New (is_shared_cell W.first W.second x) (global_named W.second.globals x) (merged_global W origin.New) (global_named (own_globals W) x) (own_unnamed W x))
 

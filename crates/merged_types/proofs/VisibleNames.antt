@@ -46,20 +46,24 @@ module _ (parts : Parts) (v : Version) (z : Bytes) where
   cells_nothing es [] h = (h, λ y s. absurd cc)
   cells_nothing es (g ∷ gs) h =
       let rest = cells_nothing (with_part (parts v sort.Cell g.name) es g.name (means_of_shape g.shape)) gs h in
-      let here = part_nothing (parts v sort.Cell g.name) es g.name (means_of_shape g.shape) z rest.0 in
-      (here.0, λ y s. by_bool (bytes_eq g.name y)
-      (λ e. subst (λ (x : Bytes). IsNot (parts v sort.Cell x) z x) (same_names g.name y e) here.1)
-      (λ e. rest.1 y (sym (ap (λ (b : Bool). is_some (if b then Some g else global_named gs y)) e) ∙ s)))
+      let here = part_nothing (parts v sort.Cell g.name) es g.name (means_of_shape g.shape) z rest.0 in (
+        here.0,
+        λ y s. by_bool (bytes_eq g.name y)
+            (λ e. subst (λ (x : Bytes). IsNot (parts v sort.Cell x) z x) (same_names g.name y e) here.1)
+            (λ e. rest.1 y (sym (ap (λ (b : Bool). is_some (if b then Some g else global_named gs y)) e) ∙ s)),
+      )
 
   pub codes_nothing : (es : Entries) (fs : List Func) → found (with_codes parts v es fs) z ≡ None
       → (found es z ≡ None) × ((y : Bytes) → is_some (func_named fs y) ≡ true → IsNot (parts v sort.Code y) z y)
   codes_nothing es [] h = (h, λ y s. absurd cc)
   codes_nothing es (f ∷ fs) h =
       let rest = codes_nothing (with_part (parts v sort.Code f.name) es f.name (version_func f)) fs h in
-      let here = part_nothing (parts v sort.Code f.name) es f.name (version_func f) z rest.0 in
-      (here.0, λ y s. by_bool (bytes_eq f.name y)
-      (λ e. subst (λ (x : Bytes). IsNot (parts v sort.Code x) z x) (same_names f.name y e) here.1)
-      (λ e. rest.1 y (sym (ap (λ (b : Bool). is_some (if b then Some f else func_named fs y)) e) ∙ s)))
+      let here = part_nothing (parts v sort.Code f.name) es f.name (version_func f) z rest.0 in (
+        here.0,
+        λ y s. by_bool (bytes_eq f.name y)
+            (λ e. subst (λ (x : Bytes). IsNot (parts v sort.Code x) z x) (same_names f.name y e) here.1)
+            (λ e. rest.1 y (sym (ap (λ (b : Bool). is_some (if b then Some f else func_named fs y)) e) ∙ s)),
+      )
 
 -- ---- entries that are kept under other names
 

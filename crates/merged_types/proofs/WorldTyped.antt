@@ -141,12 +141,15 @@ module _ (old new : TypedProgram) (xform : Program) (permits : ℕ → Bool) (ol
   own_resolved : (known : Entries) (fs : List Func) → AreOwnFuncs (part_of old.program new.program) seen known fs
       → Each (λ (f : Func). IsResolvedFunc seen true f × (is_main f.name ≡ false)) (resolved_funcs seen true fs)
   own_resolved known [] h = tt
-  own_resolved known (f ∷ fs) h =
-      ((source_resolved seen true f h.1
-      , by_bool (is_main f.name)
-        (λ e. absurd (true_false (sym (ap is_some (ap (part_of old.program new.program v.Old sort.Code) (same_names f.name (codes "main") e) ∙ main_here)) ∙ ap is_some (h.0.free v.Old sort.Code))))
-        (λ e. e))
-      , own_resolved (with_func known f) fs h.2)
+  own_resolved known (f ∷ fs) h = (
+    (
+      source_resolved seen true f h.1,
+      by_bool (is_main f.name)
+          (λ e. absurd (true_false (sym (ap is_some (ap (part_of old.program new.program v.Old sort.Code) (same_names f.name (codes "main") e) ∙ main_here)) ∙ ap is_some (h.0.free v.Old sort.Code))))
+          (λ e. e),
+    ),
+    own_resolved (with_func known f) fs h.2,
+  )
 
   transformer : IsResolvedTransformer (W old.program new.program xform permits)
   transformer = record {
@@ -160,6 +163,7 @@ module _ (old new : TypedProgram) (xform : Program) (permits : ℕ → Bool) (ol
   }
 
   pub world_typed : let P = merged_program (W old.program new.program xform permits) in Types unit.Merge (plain P) × (resolved_program (plain P) ≡ P)
-  world_typed =
-      (merged_is_typed old.program new.program xform permits sees.first sees.second transformer
-      , merged_is_resolved old.program new.program xform permits sees.first sees.second transformer)
+  world_typed = (
+    merged_is_typed old.program new.program xform permits sees.first sees.second transformer,
+    merged_is_resolved old.program new.program xform permits sees.first sees.second transformer,
+  )
