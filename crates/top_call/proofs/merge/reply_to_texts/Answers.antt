@@ -1,4 +1,5 @@
 use Rattle.std.proofs.Common.{inl, subst, sym}
+use Rattle.std.proofs.lemmas.Result.{IfOk-weaker}
 use Rattle.update_semantics.specs.Worlds.{World, world_of}
 use Rattle.front_end.specs.Worlds.{IsAccepted}
 use Rattle.top_call.specs.Seen.{seen_texts, seen_merge}
@@ -11,12 +12,13 @@ returns-in-Ok c =
     let accepted = accepted_of_texts _ _ _ _ _ _ _ _ c.listed.ensures c.deref.ensures.value c.deref-2.ensures.value c.deref-3.ensures.value _ c.in-Ok.ensures in
     c.reply_of_world.ensures ts (subst (λ (w : World). IsAccepted (seen_merge c.args.request.now).points ts (world_of w)) (sym c.get.ensures) accepted)
 
-pub returns-in_ok-refuse-in-Err-Refused : goal.returns-in_ok-refuse-in-Err-Refused
-returns-in_ok-refuse-in-Err-Refused c =
+pub returns-in-Err-Refused : goal.returns-in-Err-Refused
+returns-in-Err-Refused c =
     let refused = c.in-Err-Refused in
-    inl (
+    IfOk-weaker c.refuse.result _ _
+    (λ reply is. inl (
       refused.refusal,
       refused_of_texts _ _ _ _ _ _ _ _ c.listed.ensures c.deref.ensures.value c.deref-2.ensures.value c.deref-3.ensures.value refused.refusal
           (rw refused.field-0-is at refused.ensures),
-      c.in_ok-refuse-in-Err-Refused.ensures,
-    )
+      is,
+    )) c.refuse.ensures
