@@ -70,6 +70,7 @@ pub const PAST_LIMIT: u8 = 27;
 
 /// A comment that isn't closed.
 pub const OPEN_COMMENT: u8 = 28;
+
 /// Why an input is refused: the number of the rule, where, and for `NOT_COVERED` the name that is
 /// not covered. No other refusal has a name.
 #[derive(Debug, Drop)]

@@ -42,7 +42,13 @@ fn reply_to_texts(
 ) -> Result<Reply, AllocError>
     ensures { IfOk result (λ reply. Merges (seen_merge request.now) (seen_texts texts.now) (seen_reply reply)) }
 {
-    match accept(alloc, &texts.old, &texts.new, &texts.xform, request.listed()) {
+    match accept(
+        alloc,
+        &texts.old,
+        &texts.new,
+        &texts.xform,
+        request.listed(),
+    ) {
         Ok(world) => reply_of_world(alloc, request, world.get()),
         Err(Fail::Refused(refusal)) => refuse(alloc, &refusal),
         Err(Fail::NoMemory) => Err(AllocError),
