@@ -1,1 +1,3 @@
 pub mod LinkLaws
+pub mod MergedNames
+pub mod Lookups

@@ -6,7 +6,6 @@ use Rattle.c_lang.specs.Units.{at}
 use Rattle.c_lang.specs.Programs.{func_in}
 use Rattle.c_lang.specs.Trees.{stmt_of, stmts_of}
 use Rattle.c_lang.specs.declared.unit.Unit.TheVariants.{Merge}
-use Rattle.c_lang.specs.declared.unit.Pos.{Pos}
 use Rattle.c_lang.specs.declared.stmt.Kind.{Kind}
 use Rattle.c_lang.specs.declared.stmt.Stmt.{Stmt}
 use Rattle.c_lang.specs.declared.program.Shape.{Shape}

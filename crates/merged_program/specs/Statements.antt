@@ -1,6 +1,6 @@
 -- The statements of a merged program: names are those of the merged program, and points, forces and picks are
 -- tests of the flag.
-use Rattle.std.specs.Prelude.{ℕ, pos, Bool, true, false, map, ◌&&◌, if◌then◌else◌, List, [], ◌∷◌, Some, codes}
+use Rattle.std.specs.Prelude.{ℕ, pos, Bool, true, false, map, ◌&&◌, if◌then◌else◌, List, [], Some, codes}
 use Rattle.c_lang.specs.Names.{Bytes}
 use Rattle.c_lang.specs.Trees.{Expression, literal, variable, binary, Statement, Statements, skip, set, set_element, call, call_by, if_else, while_loop, break_loop, return_with, assert_that, input, output, point, choice, force, pick, none, more}
 use Rattle.c_lang.specs.declared.expr.Op.{Op}

@@ -1,6 +1,6 @@
 -- The functions of a merged program by their names.
 use Rattle.std.proofs.Common.{◌≡◌, Bool, true, false, ◌&&◌, if◌then◌else◌, List, [], ◌∷◌, ◌++◌, map, Option, Some, None, unwrap_or, refl, sym, ap, ap₂, ◌∙◌, subst, codes, inl, inr}
-use Rattle.std.specs.Option.{option_map}
+use Rattle.std.specs.Option.{option_map, option_or}
 use Rattle.std.specs.List.{filter}
 use Rattle.std.specs.Str.{bytes_eq}
 use Rattle.c_lang.specs.Names.{Bytes}
@@ -20,12 +20,13 @@ use Rattle.version_names.specs.Provenance as origin
 use Rattle.update_semantics.specs.UpdatingRun.{World, Specification, client_funcs}
 use Rattle.merged_program.specs.Names.{code_name, variable_name, function_name}
 use Rattle.merged_program.specs.Programs.{ending, wrapper, merged_func, old_func, new_func, xform_func, client_func, is_wrapped, merged_main, merged_funcs, merged_program}
+use Rattle.merged_program.proofs.MergedNames.{same_codes}
+use Rattle.merged_program.proofs.Lookups.{name_of_func, func_named-is, or_none, named-append, named-filter, named-map}
+use Rattle.merged_runs.proofs.MergedNaming.{merged_naming}
 use Rattle.merged_runs.proofs.MergedStatements.{return_zero, bodies-merged}
-use Rattle.merged_runs.proofs.MergedNames.{same_codes, merged_naming}
 use Rattle.merged_runs.proofs.Relation.{Merging, transform_function}
 use Rattle.merged_runs.proofs.FrameLemmas.{IsBehind, IsMerged, HasTransform}
 use Rattle.merged_runs.proofs.CallLemmas.{IsDirect}
-use Rattle.merged_runs.proofs.Lookups.{name_of_func, func_named-is, or_else, or_none, named-append, named-filter, named-map}
 
 module _ (W : World) where
   abbrev pub M : Merging
@@ -63,18 +64,18 @@ module _ (W : World) where
   main-is k = ap (λ b. if b then Some (merged_main W W.client) else None)
       (ap (λ n. bytes_eq n (code_name k)) (main-named W.client) ∙ same_codes (home.Unlinked, codes "main") k)
 
-  append-is : (xs ys : List Func) (n : Bytes) (a b : Option Func) → func_named xs n ≡ a → func_named ys n ≡ b → func_named (xs ++ ys) n ≡ or_else a b
+  append-is : (xs ys : List Func) (n : Bytes) (a b : Option Func) → func_named xs n ≡ a → func_named ys n ≡ b → func_named (xs ++ ys) n ≡ option_or a b
   append-is xs ys n a b e f =
       func_named-is (xs ++ ys) n ∙ named-append name_of_func xs ys n
-      ∙ ap₂ or_else (sym (func_named-is xs n) ∙ e) (sym (func_named-is ys n) ∙ f)
+      ∙ ap₂ option_or (sym (func_named-is xs n) ∙ e) (sym (func_named-is ys n) ∙ f)
 
   abbrev table : Linked → Option Func
   table k =
-      or_else (in_part home.Old (old_func W) W.first.funcs k)
-      (or_else (in_part home.New (new_func W) W.second.funcs k)
-      (or_else (in_part home.Both wrapper (filter (is_wrapped W) W.first.funcs) k)
-      (or_else (in_part home.Xform (xform_func W) W.xform.funcs k)
-      (or_else (in_part home.Client (client_func W) (client_funcs W) k) (at_main k)))))
+      option_or (in_part home.Old (old_func W) W.first.funcs k)
+      (option_or (in_part home.New (new_func W) W.second.funcs k)
+      (option_or (in_part home.Both wrapper (filter (is_wrapped W) W.first.funcs) k)
+      (option_or (in_part home.Xform (xform_func W) W.xform.funcs k)
+      (option_or (in_part home.Client (client_func W) (client_funcs W) k) (at_main k)))))
 
   pub table-is : (k : Linked) → func_named (merged_funcs W) (code_name k) ≡ table k
   table-is k =

@@ -1,13 +1,12 @@
 pub mod MergedStatements
 pub mod EvaluationRenamed
 pub mod Relation
-pub mod MergedNames
+pub mod MergedNaming
 pub mod StateLemmas
 pub mod FrameLemmas
 pub mod CallLemmas
 pub mod StatementLemmas
 pub mod Callable
-pub mod Lookups
 pub mod Meanings
 pub mod FunctionTable
 pub mod Wrappers

@@ -13,7 +13,7 @@ use Rattle.version_names.specs.Home as home
 use Rattle.version_names.specs.Provenance.{Provenance}
 use Rattle.version_names.specs.Provenance as origin
 use Rattle.update_semantics.specs.UpdatingRun.{World, old_or_new, linked_by_prefix, client_funcs, cell_meaning, function_meaning}
-use Rattle.merged_runs.proofs.MergedNames.{by_bool, to_false, true_false, same_names, same_home-is}
+use Rattle.merged_program.proofs.MergedNames.{to_false, by_bool, true_false, same_names, same_home-is}
 
 pub alike_some : {X : Type 0} (same : X → X → Bool) (a b : Option X) → both_alike same a b ≡ true → (is_some a ≡ true) × (is_some b ≡ true)
 alike_some same (Some x) (Some y) h = (refl, refl)

@@ -1,6 +1,6 @@
 -- The globals of a merged program by their names, and what they hold at the start.
 use Rattle.std.proofs.Common.{◌≡◌, Bool, true, false, not, ◌&&◌, if◌then◌else◌, List, ◌++◌, map, Option, Some, None, is_some, refl, sym, ap, ap₂, ◌∙◌, subst, ◌⊎◌, inl, inr}
-use Rattle.std.specs.Option.{option_map}
+use Rattle.std.specs.Option.{option_map, option_or}
 use Rattle.std.specs.List.{filter}
 use Rattle.std.specs.Str.{bytes_eq}
 use Rattle.c_lang.specs.Names.{Bytes}
@@ -20,10 +20,11 @@ use Rattle.version_names.specs.Provenance as origin
 use Rattle.update_semantics.specs.UpdatingRun.{World, State, swapped_state, cell_meaning, function_meaning, first_state}
 use Rattle.merged_program.specs.Names.{now_name, cell_name, code_name, variable_name}
 use Rattle.merged_program.specs.Programs.{flag, merged_shape, merged_global, is_own_cell, merged_globals}
+use Rattle.merged_program.proofs.MergedNames.{true_false, bytes_eq-sym, same_cells, cell_apart-now}
+use Rattle.merged_program.proofs.Lookups.{name_of_global, global_named-is, or_some, some_mapped, named-append, named-filter, filter-passes, named-map, named-absent}
+use Rattle.merged_runs.proofs.MergedNaming.{merged_naming}
 use Rattle.merged_runs.proofs.EvaluationRenamed.{renamed_value}
-use Rattle.merged_runs.proofs.MergedNames.{true_false, bytes_eq-sym, same_cells, cell_apart-now, merged_naming}
 use Rattle.merged_runs.proofs.Relation.{SameState}
-use Rattle.merged_runs.proofs.Lookups.{name_of_global, global_named-is, or_else, or_some, some_mapped, named-append, named-filter, named-map, named-absent, filter-passes}
 use Rattle.merged_runs.proofs.Meanings.{IsFoundCell, cell-found}
 use Rattle.merged_runs.proofs.FunctionTable.{M}
 
@@ -66,11 +67,11 @@ module _ (W : World) where
   news = map (merged_global W origin.New) own_news
 
   whole-is : (k : Linked) (a b : Option GlobalVar) → global_named olds (cell_name k) ≡ a → global_named news (cell_name k) ≡ b
-      → global_named (merged_globals W) (cell_name k) ≡ or_else a b
+      → global_named (merged_globals W) (cell_name k) ≡ option_or a b
   whole-is k a b e f =
       ap (λ c. if c then Some flag else global_named (olds ++ news) (cell_name k)) (bytes_eq-sym now_name (cell_name k) ∙ cell_apart-now k)
       ∙ global_named-is (olds ++ news) (cell_name k) ∙ named-append name_of_global olds news (cell_name k)
-      ∙ ap₂ or_else (sym (global_named-is olds (cell_name k)) ∙ e) (sym (global_named-is news (cell_name k)) ∙ f)
+      ∙ ap₂ option_or (sym (global_named-is olds (cell_name k)) ∙ e) (sym (global_named-is news (cell_name k)) ∙ f)
 
   old-is : (x : Bytes) → global_named olds (variable_name W origin.Old x) ≡ option_map (merged_global W origin.Old) (global_named W.first.globals x)
   old-is x =

@@ -14,7 +14,7 @@ use Rattle.c_types.specs.Programs.{outside_of, with_func, with_globals, resolved
 use Rattle.c_types.specs.Types.{AreTypedFuncs}
 use Rattle.c_types.specs.Kept.{TypedProgram, IsKept}
 use Rattle.version_names.specs.Links.{both_alike, same_head, is_shared_code}
-use Rattle.merged_runs.proofs.MergedNames.{by_bool, true_false, same_names, bytes_eq-refl}
+use Rattle.merged_program.proofs.MergedNames.{by_bool, true_false, same_names, bytes_eq-refl}
 use Rattle.merged_runs.proofs.Wrappers.{length-kinds}
 
 -- ---- entries that are added

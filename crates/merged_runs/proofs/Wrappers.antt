@@ -23,11 +23,11 @@ use Rattle.version_names.specs.Provenance as origin
 use Rattle.update_semantics.specs.UpdatingRun.{World, function_meaning}
 use Rattle.merged_program.specs.Names.{parameter_name, code_name, variable_name}
 use Rattle.merged_program.specs.Programs.{parameters_from, wrapper, merged_funcs}
+use Rattle.merged_program.proofs.MergedNames.{to_false, both_true, same_names}
+use Rattle.merged_program.proofs.Lookups.{name_of_func, func_named-is, named-name}
 use Rattle.merged_runs.proofs.MergedStatements.{wrapper_body, wrapper-built}
-use Rattle.merged_runs.proofs.MergedNames.{to_false, same_names, both_true}
 use Rattle.merged_runs.proofs.FrameLemmas.{IsMerged}
 use Rattle.merged_runs.proofs.CallLemmas.{Apart, Distinct, NoFlag, IsWrapper, IsCallable, HasFuncs}
-use Rattle.merged_runs.proofs.Lookups.{name_of_func, func_named-is, named-name}
 use Rattle.merged_runs.proofs.Meanings.{IsFoundCode, function-found, not_shared}
 use Rattle.merged_runs.proofs.FunctionTable.{M, old-merged, new-merged, xform-merged, client-merged, none-named, wrapper-in}
 

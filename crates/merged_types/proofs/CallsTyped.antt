@@ -22,7 +22,8 @@ use Rattle.version_names.specs.declared.part.Origin.TheVariants as prefix
 use Rattle.merged_program.specs.Names.{now_name, result_name, parameter_name}
 use Rattle.merged_program.specs.Statements.{hand, wrapping, return_zero}
 use Rattle.merged_program.specs.Programs.{parameters_from, wrapper, starting}
-use Rattle.merged_types.proofs.EntryLaws.{one, found_added, absent_from, added_behind, itself}
+use Rattle.merged_program.proofs.MergedNames.{bytes_eq-refl}
+use Rattle.merged_types.proofs.EntryLaws.{one, found_added, absent_from, added_behind}
 use Rattle.merged_types.proofs.ResolvedTyping.{IsVariable, IsResolvedCall, IsResolvedReturn, AreResolvedArguments, AreResolved}
 use Rattle.merged_types.proofs.AskingTyped.{outside_means, set_test}
 use Rattle.merged_types.proofs.ResolvedFuncs.{IsResolvedFunc}
@@ -115,7 +116,7 @@ module _ (outside : Entries) (gives : Bool) (free : (n : ℕ) → n < 2 ^ 64 →
   arguments names n (k ∷ ks) locals small h look =
       let x = parameter_name n in
       let there : found (added locals x (Cell k)) x ≡ Some (Cell k) =
-      found_added locals x x (Cell k) ∙ ap₂ (λ (o : Option Means) (b : Bool). option_or o (cond b (Some (Cell k)) None)) (h n (omega arith) (omega (arith, small))) (itself x) in
+      found_added locals x x (Cell k) ∙ ap₂ (λ (o : Option Means) (b : Bool). option_or o (cond b (Some (Cell k)) None)) (h n (omega arith) (omega (arith, small))) (bytes_eq-refl x) in
       let means : names x ≡ Cell k = look x (Cell k) (free n (omega (arith, small))) (kept_there (added locals x (Cell k)) (parameters_from (n + 1) ks) x (Cell k) there) in (
         subst (IsVariable k) (sym means) refl,
         arguments names (n + 1) ks (added locals x (Cell k)) (omega (arith, small)) (free_next n k locals h) look,

@@ -8,25 +8,10 @@ use Rattle.std.specs.Str.{bytes_eq}
 use Rattle.std.proofs.lemmas.Bool.Decides.{nat_tests}
 use Rattle.std.proofs.lemmas.List.{map-append, length-map}
 use Rattle.std.proofs.lemmas.List.Folds.{position_or_len_push}
-use Rattle.std.proofs.lemmas.Slice.Eq.{bytes_eq-Decides}
 use Rattle.c_lang.specs.Names.{Bytes}
 use Rattle.c_types.specs.Names.{Means, Entries, found, added, stands_from, stands_before, at_least, less_than}
-
--- ---- tests
-
-pub by_bool : {A : Type 0} (b : Bool) → (b ≡ true → A) → (b ≡ false → A) → A
-by_bool true f g = f refl
-by_bool false f g = g refl
-
-pub same_names : (x y : Bytes) → bytes_eq x y ≡ true → x ≡ y
-same_names x y h = (bytes_eq-Decides x y).0 h
-
-pub itself : (x : Bytes) → bytes_eq x x ≡ true
-itself x = (bytes_eq-Decides x x).1 refl
-
-pub or_none : {X : Type 0} (o : Option X) → option_or o None ≡ o
-or_none None = refl
-or_none (Some x) = refl
+use Rattle.merged_program.proofs.MergedNames.{by_bool, same_names, bytes_eq-refl}
+use Rattle.merged_program.proofs.Lookups.{or_none, or_some}
 
 -- ---- one name more
 
@@ -42,13 +27,9 @@ found_behind (e ∷ es) x y m = by_test (bytes_eq x e.0) (found_behind es x y m)
     by_test true h = refl
     by_test false h = h
 
-some_or : {X : Type 0} (o p : Option X) → is_some o ≡ true → o ≡ option_or o p
-some_or None p h = absurd cc
-some_or (Some x) p h = refl
-
 found_there : (es : Entries) (x y : Bytes) (m : Means) → is_some (found es y) ≡ true → found es x ≡ option_or (found es x) (one x y m)
 found_there es x y m h = by_bool (bytes_eq x y)
-    (λ e. some_or (found es x) (one x y m) (ap (λ (z : Bytes). is_some (found es z)) (same_names x y e) ∙ h))
+    (λ e. sym (or_some (found es x) (one x y m) (ap (λ (z : Bytes). is_some (found es z)) (same_names x y e) ∙ h)))
     (λ e. sym (ap (λ (b : Bool). option_or (found es x) (cond b (Some m) None)) e ∙ or_none (found es x)))
 
 pub found_added : (es : Entries) (x y : Bytes) (m : Means) → found (added es y m) x ≡ option_or (found es x) (one x y m)
@@ -92,7 +73,7 @@ added_behind es x m h =
         let n : length (keys_of es) + 0 ≡ length es = omega (arith, l) in
         position_or_len_push (bytes_eq x) (keys_of es) x
         ∙ ap (λ (b : Bool). cond b (length (keys_of es) + cond (bytes_eq x x) 0 1) (position_or_len (bytes_eq x) (keys_of es))) t
-        ∙ ap (λ (b : Bool). length (keys_of es) + cond b 0 1) (itself x) ∙ n
+        ∙ ap (λ (b : Bool). length (keys_of es) + cond b 0 1) (bytes_eq-refl x) ∙ n
 
     by_test : {place : ℕ} (b : Bool) → place ≡ length es → less_than (length es) (cond b (Some place) None) ≡ false
     by_test true p = grind (arith, nat_tests, p)

@@ -12,8 +12,7 @@ mod CarriedStatements
 mod SameFlow
 mod ResolvedFuncs
 pub mod PlainPrograms
-mod MergedNames
-mod Lookups
+mod MergedNaming
 mod MergedTables
 mod VersionNames
 mod NewNames

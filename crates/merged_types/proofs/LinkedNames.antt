@@ -9,8 +9,7 @@ use Rattle.version_names.specs.Home.{Home, Linked, same_home}
 use Rattle.version_names.specs.Home as home
 use Rattle.version_names.specs.declared.part.Origin.TheVariants as prefix
 use Rattle.update_semantics.specs.UpdatingRun.{old_or_new, linked_by_prefix}
-use Rattle.merged_types.proofs.EntryLaws.{by_bool}
-use Rattle.merged_types.proofs.MergedNames.{behind_prefix}
+use Rattle.merged_program.proofs.MergedNames.{by_bool, behind_prefix}
 
 module _ (part : Version → Bytes → Home) where
   pub linked_both : (x : Bytes) → same_home (part version.Old x) home.Both ≡ true → linked_by_prefix part x ≡ (home.Both, x)

@@ -19,9 +19,9 @@ use Rattle.version_names.specs.Provenance as origin
 use Rattle.update_semantics.specs.UpdatingRun.{World, Specification, client_funcs}
 use Rattle.merged_program.specs.Names.{now_name, cell_name, code_name, variable_name}
 use Rattle.merged_program.specs.Programs.{flag, merged_global, is_own_cell, merged_globals, wrapper, old_func, new_func, xform_func, client_func, is_wrapped, merged_main, merged_funcs}
-use Rattle.merged_types.proofs.EntryLaws.{found_added, by_bool, same_names, or_none}
-use Rattle.merged_types.proofs.MergedNames.{bytes_eq-sym, same_cells, same_codes, cell_apart-now, kept-own}
-use Rattle.merged_types.proofs.Lookups.{named, name_of_func, name_of_global, func_named-is, global_named-is, named-append, named-filter, filter-passes, named-map}
+use Rattle.merged_program.proofs.MergedNames.{by_bool, same_names, bytes_eq-sym, kept-own, same_cells, same_codes, cell_apart-now}
+use Rattle.merged_program.proofs.Lookups.{named, name_of_func, name_of_global, func_named-is, global_named-is, or_none, named-append, named-filter, filter-passes, named-map}
+use Rattle.merged_types.proofs.EntryLaws.{found_added}
 
 -- ---- what is visible in a whole unit
 

@@ -15,8 +15,8 @@ use Rattle.c_types.specs.Programs.{with_global, with_globals, with_func, with_fu
 use Rattle.c_types.specs.Types.{IsMatch, AreNarrow, AreTypedProtos}
 use Rattle.c_types.proofs.Combined.{both_true}
 use Rattle.merged_program.specs.Programs.{declared}
-use Rattle.merged_types.proofs.EntryLaws.{by_bool, one, same_names, itself, found_added}
-use Rattle.merged_types.proofs.MergedNames.{bytes_eq-sym, true_false}
+use Rattle.merged_program.proofs.MergedNames.{by_bool, true_false, same_names, bytes_eq-refl, bytes_eq-sym}
+use Rattle.merged_types.proofs.EntryLaws.{one, found_added}
 use Rattle.merged_types.proofs.MergedTables.{means_of_global, found_globals, found_funcs}
 use Rattle.merged_types.proofs.PlainPrograms.{AreNew, AreNewGlobals, Each}
 
@@ -187,7 +187,7 @@ pub each_own : (seen : Entries) (fs : List Func) → AreNew seen fs → Each (Is
 unfolding IsOwn
 each_own seen [] h = tt
 each_own seen (f ∷ fs) h = (
-  (h.0, ap (λ (b : Bool). if b then Some f else func_named fs f.name) (itself f.name)),
+  (h.0, ap (λ (b : Bool). if b then Some f else func_named fs f.name) (bytes_eq-refl f.name)),
   behind fs (each_own (with_func seen f) fs h.1),
 )
   where
@@ -211,7 +211,7 @@ protos_typed whole seen [] look h k = tt
 protos_typed whole seen (f ∷ fs) look h k =
     let there : found (with_func seen f) f.name ≡ Some (means_of_func f) =
     found_added seen f.name f.name (means_of_func f)
-    ∙ ap₂ (λ (o : Option Means) (b : Bool). option_or o (cond b (Some (means_of_func f)) None)) h.0 (itself f.name) in (
+    ∙ ap₂ (λ (o : Option Means) (b : Bool). option_or o (cond b (Some (means_of_func f)) None)) h.0 (bytes_eq-refl f.name) in (
       record {
         matches = subst (λ (o : Option Means). IsMatch o (declared f)) (sym (look f.name (means_of_func f) (kept_seen (with_func seen f) fs f.name (means_of_func f) there))) (refl, refl);
         few = k.0.0;
@@ -316,7 +316,7 @@ pub each_own_global : (seen : Entries) (gs : List GlobalVar) → AreNewGlobals s
 unfolding IsOwnGlobal
 each_own_global seen [] h = tt
 each_own_global seen (f ∷ fs) h = (
-  (h.0, ap (λ (b : Bool). if b then Some f else global_named fs f.name) (itself f.name)),
+  (h.0, ap (λ (b : Bool). if b then Some f else global_named fs f.name) (bytes_eq-refl f.name)),
   behind fs (each_own_global (with_global seen f) fs h.1),
 )
   where

@@ -22,8 +22,9 @@ use Rattle.version_names.specs.Provenance.{Provenance}
 use Rattle.merged_program.specs.Statements.{merged_statements, return_zero}
 use Rattle.merged_program.specs.Programs.{ending}
 use Rattle.c_types.proofs.Combined.{both_true}
+use Rattle.merged_program.proofs.MergedNames.{by_bool}
 use Rattle.merged_types.proofs.TreesBack.{body_back}
-use Rattle.merged_types.proofs.EntryLaws.{by_bool, renamed_added}
+use Rattle.merged_types.proofs.EntryLaws.{renamed_added}
 use Rattle.merged_types.proofs.Resolution.{list_tree, list_built}
 use Rattle.merged_types.proofs.ResolvedTyping.{IsResolvedReturn, AreResolved}
 use Rattle.merged_types.proofs.SameScopes.{same_entered}

@@ -35,10 +35,11 @@ use Rattle.state_xform.specs.Visible.{Parts, own_func, with_own_funcs, version_f
 use Rattle.state_xform.specs.Transformers.{AreOwnFuncs}
 use Rattle.merged_program.specs.Names.{cell_name, code_name, variable_name, function_name}
 use Rattle.merged_program.specs.Programs.{xform_func}
-use Rattle.merged_types.proofs.EntryLaws.{by_bool, same_names, itself, or_none}
+use Rattle.merged_program.proofs.MergedNames.{by_bool, true_false, same_names, bytes_eq-refl}
+use Rattle.merged_program.proofs.Lookups.{or_none}
+use Rattle.merged_types.proofs.MergedNaming.{merged_naming}
 use Rattle.merged_types.proofs.Carrying.{IsKeptCell, IsKeptCode}
 use Rattle.merged_types.proofs.CarriedScopes.{IsOutside}
-use Rattle.merged_types.proofs.MergedNames.{true_false, merged_naming}
 use Rattle.merged_types.proofs.MergedTables.{means_of_global, no_xform_cell}
 use Rattle.merged_types.proofs.LinkedNames.{linked_both, linked_old, linked_new, linked_nowhere}
 use Rattle.merged_types.proofs.VersionNames.{merged_outside, kept_some, shape_no_code, kept_func, same_means, kinds_merged, old_cell, shared_cell, new_alone, nowhere, code_found, old_code, new_code, wrapper_code, shared_code}
@@ -336,7 +337,7 @@ module _ (W : World) (p : Program) (h : SeesVersions W p) where
     apart_old_cell = cells_nothing parts v.Old x own_names W.first.globals apart_old_code.0
 
     never : {X : Type 0} (y : Bytes) → bytes_eq y y ≡ false → X
-    never y e = absurd (true_false (sym (itself y) ∙ e))
+    never y e = absurd (true_false (sym (bytes_eq-refl y) ∙ e))
 
     not_both : same_home (cell_part W.first W.second version.Old x) home.Both ≡ false
     not_both = by_bool (same_home (cell_part W.first W.second version.Old x) home.Both)

@@ -25,8 +25,8 @@ use Rattle.update_semantics.specs.UpdatingRun.{World, Specification, client_func
 use Rattle.merged_program.specs.Names.{now_name, choice_name, result_name, parameter_name, cell_name, kept_name}
 use Rattle.merged_program.specs.Programs.{merged_globals, merged_param, wrapper, old_func, new_func, xform_func, client_func, is_wrapped, merged_main, merged_funcs}
 use Rattle.state_xform.specs.Transformers.{is_start}
-use Rattle.merged_types.proofs.EntryLaws.{or_none, same_names}
-use Rattle.merged_types.proofs.MergedNames.{to_false, kept-own}
+use Rattle.merged_program.proofs.MergedNames.{to_false, same_names, kept-own}
+use Rattle.merged_program.proofs.Lookups.{or_none}
 use Rattle.merged_types.proofs.MergedTables.{either_means, found_outside, no_func_named, funcs_append, no_cell, no_xform_cell}
 use Rattle.merged_types.proofs.CarriedScopes.{HasUpdate}
 use Rattle.merged_types.proofs.NewNames.{empty_is}

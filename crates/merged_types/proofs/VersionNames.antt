@@ -26,9 +26,9 @@ use Rattle.version_names.specs.Provenance as origin
 use Rattle.update_semantics.specs.UpdatingRun.{World}
 use Rattle.merged_program.specs.Names.{cell_name, code_name, kept_name, variable_name, function_name}
 use Rattle.merged_program.specs.Programs.{parameters_from, wrapper, merged_shape, merged_global, merged_globals, merged_param, merged_funcs, merged_main, old_func, new_func, is_wrapped}
-use Rattle.merged_types.proofs.EntryLaws.{by_bool, same_names, or_none}
-use Rattle.merged_types.proofs.MergedNames.{same_home-refl, merged_naming}
-use Rattle.merged_types.proofs.Lookups.{name_of_func, func_named-is, named-filter}
+use Rattle.merged_program.proofs.MergedNames.{by_bool, same_names, same_home-refl}
+use Rattle.merged_program.proofs.Lookups.{name_of_func, func_named-is, or_none, named-filter}
+use Rattle.merged_types.proofs.MergedNaming.{merged_naming}
 use Rattle.merged_types.proofs.MergedTables.{means_of_global, either_means, found_outside, table, table-is, cells_table, cells-is, own_globals, own_named, own_unnamed, no_wrapper_cell, no_old_cell, no_new_cell}
 use Rattle.merged_types.proofs.Carrying.{IsKeptCell, IsKeptCode, IsKeptValue}
 use Rattle.merged_types.proofs.CarriedScopes.{IsOutside}

@@ -34,8 +34,7 @@ use Rattle.state_xform.specs.Visible.{visible}
 use Rattle.written_laws.specs.SourceNames.{IsWord, ShapeHasNames, NamesAreWords}
 use Rattle.written_laws.proofs.WrittenLaws.{words}
 use Rattle.merged_program.specs.Programs.{merged_program}
-use Rattle.merged_types.proofs.EntryLaws.{by_bool, same_names}
-use Rattle.merged_types.proofs.MergedNames.{behind_prefix, true_false}
+use Rattle.merged_program.proofs.MergedNames.{by_bool, true_false, same_names, behind_prefix}
 use Rattle.merged_types.proofs.ResolvedFuncs.{IsResolvedFunc, source_resolved}
 use Rattle.merged_types.proofs.PlainPrograms.{AreNew, Each, IsResolvedProgram}
 use Rattle.merged_types.proofs.NewNames.{main_named}

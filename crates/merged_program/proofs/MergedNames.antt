@@ -14,14 +14,29 @@ use Rattle.version_names.specs.Provenance as origin
 use Rattle.version_names.specs.Links.{cell_part}
 use Rattle.update_semantics.specs.UpdatingRun.{World, old_or_new, linked_by_prefix, cell_meaning}
 use Rattle.merged_program.specs.Names.{now_name, choice_name, is_foreign, kept_name, cell_name, code_name, variable_name}
-use Rattle.merged_types.proofs.EntryLaws.{by_bool, same_names, itself}
-use Rattle.merged_types.proofs.CarriedScopes.{IsNaming}
 
--- ---- tests of names
+-- ---- tests
+
+pub by_bool : {A : Type 0} (b : Bool) → (b ≡ true → A) → (b ≡ false → A) → A
+by_bool true f g = f refl
+by_bool false f g = g refl
+
+pub true_false : true ≡ false → ⊥
+true_false e = absurd cc
+
+pub both_true : (a b : Bool) → a && b ≡ true → (a ≡ true) × (b ≡ true)
+both_true true b e = (refl, e)
+both_true false b e = absurd cc
 
 pub to_false : (b : Bool) → (b ≡ true → ⊥) → b ≡ false
 to_false true h = absurd (h refl)
 to_false false h = refl
+
+pub same_names : (x y : Bytes) → bytes_eq x y ≡ true → x ≡ y
+same_names x y h = (bytes_eq-Decides x y).0 h
+
+pub bytes_eq-refl : (x : Bytes) → bytes_eq x x ≡ true
+bytes_eq-refl x = (bytes_eq-Decides x x).1 refl
 
 pub bytes_eq-sym : (x y : Bytes) → bytes_eq x y ≡ bytes_eq y x
 bytes_eq-sym x y = by_cases (bytes_eq x y) refl
@@ -62,9 +77,6 @@ foreign-is x h = behind_prefix x (codes "dsu_") (foreign-reserved (is_reserved x
 own-foreign : (c : ℕ) (z : Bytes) → (116 == c) ≡ false → is_foreign (own c z) ≡ true
 own-foreign c z h = ap (λ b. not (b && true)) h
 
-pub true_false : true ≡ false → ⊥
-true_false e = absurd cc
-
 -- such a name is apart from every kept one, where the byte isn't `d` either
 pub own-kept : (c : ℕ) (z x : Bytes) → (116 == c) ≡ false → (c == 100) ≡ false → bytes_eq (own c z) (kept_name x) ≡ false
 own-kept c z x not_t not_d = by_bool (is_foreign x)
@@ -96,6 +108,14 @@ kept-kept x y = by_bool (is_foreign x)
     (λ h. by_bool (is_foreign y)
     (λ k. bytes_eq-sym (kept_name x) (kept_name y) ∙ kept-mixed y x k h ∙ bytes_eq-sym y x)
     (λ k. ap₂ bytes_eq (kept-free x h) (kept-free y k)))
+
+-- a name that isn't reserved is apart from a kept one where it is apart from the name
+pub free-kept : (n x : Bytes) → is_reserved n ≡ false → bytes_eq n x ≡ false → bytes_eq n (kept_name x) ≡ false
+free-kept n x free apart = by_bool (is_foreign x)
+    (λ h. to_false (bytes_eq n (kept_name x)) (λ e.
+    let same : n ≡ codes "dsu_" ++ x = same_names n (kept_name x) e ∙ kept-foreign x h in
+    true_false (sym (ap is_reserved same) ∙ free)))
+    (λ h. ap (bytes_eq n) (kept-free x h) ∙ apart)
 
 -- ---- linked names
 
@@ -209,17 +229,13 @@ same_home-is home.Client home.Client e = refl
 same_home-is home.Unlinked home.Unlinked e = refl
 same_home-is h k e = absurd cc
 
-both_true : (a b : Bool) → a && b ≡ true → (a ≡ true) × (b ≡ true)
-both_true true b e = (refl, e)
-both_true false b e = absurd cc
-
 same_linked-is : (a b : Linked) → same_linked a b ≡ true → a ≡ b
 same_linked-is a b e =
     let parts = both_true (same_home a.0 b.0) (bytes_eq a.1 b.1) e in
     ap₂ (λ (h : Home) (x : Bytes). (h, x)) (same_home-is a.0 b.0 parts.0) (same_names a.1 b.1 parts.1)
 
 same_linked-refl : (a : Linked) → same_linked a a ≡ true
-same_linked-refl a = ap₂ ◌&&◌ (same_home-refl a.0) (itself a.1)
+same_linked-refl a = ap₂ ◌&&◌ (same_home-refl a.0) (bytes_eq-refl a.1)
 
 by_written : (part : Version → Bytes → Home) (x y : Bytes) → same_linked (linked_by_prefix part x) (linked_by_prefix part y) ≡ bytes_eq x y
 by_written part x y = by_bool (bytes_eq x y)
@@ -239,12 +255,6 @@ module _ (W : World) where
   same_meaning origin.Xform x y = by_written (cell_part W.first W.second) x y
   same_meaning origin.Client x y = refl
 
+  -- in one frame
   pub own_apart : (o : Provenance) (x y : Bytes) → bytes_eq (variable_name W o x) (variable_name W o y) ≡ bytes_eq x y
   own_apart o x y = same_cells (cell_meaning W o x) (cell_meaning W o y) ∙ same_meaning o x y
-
-  pub merged_naming : (o : Provenance) → IsNaming (variable_name W o)
-  merged_naming o = record {
-    same = own_apart o;
-    choice = λ x. choice_apart-cell (cell_meaning W o x);
-    choice_after = λ x. bytes_eq-sym (variable_name W o x) choice_name ∙ choice_apart-cell (cell_meaning W o x);
-  }

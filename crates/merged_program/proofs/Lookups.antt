@@ -1,13 +1,13 @@
 -- The first of a list that has a name, in lists that are made of others.
 use Rattle.std.proofs.Common.{◌≡◌, Bool, true, false, ◌&&◌, if◌then◌else◌, List, [], ◌∷◌, ◌++◌, map, Option, Some, None, is_some, refl, sym, ap, ◌∙◌}
-use Rattle.std.specs.Option.{option_map}
+use Rattle.std.specs.Option.{option_map, option_or}
 use Rattle.std.specs.List.{filter}
 use Rattle.std.specs.Str.{bytes_eq}
 use Rattle.c_lang.specs.Names.{Bytes}
 use Rattle.c_lang.specs.Programs.{func_named, global_named}
 use Rattle.c_lang.specs.declared.program.Func.{Func}
 use Rattle.c_lang.specs.declared.program.GlobalVar.{GlobalVar}
-use Rattle.merged_runs.proofs.MergedNames.{by_bool, true_false, same_names, bytes_eq-refl}
+use Rattle.merged_program.proofs.MergedNames.{by_bool, true_false, same_names, bytes_eq-refl}
 
 abbrev pub named : {X : Type 0} → (X → Bytes) → List X → Bytes → Option X
 named name_of [] n = None
@@ -27,15 +27,11 @@ pub global_named-is : (gs : List GlobalVar) (n : Bytes) → global_named gs n �
 global_named-is [] n = refl
 global_named-is (g ∷ gs) n = ap (λ o. if bytes_eq g.name n then Some g else o) (global_named-is gs n)
 
-abbrev pub or_else : {X : Type 0} → Option X → Option X → Option X
-or_else (Some x) o = Some x
-or_else None o = o
-
-pub or_none : {X : Type 0} (o : Option X) → or_else o None ≡ o
+pub or_none : {X : Type 0} (o : Option X) → option_or o None ≡ o
 or_none (Some x) = refl
 or_none None = refl
 
-pub or_some : {X : Type 0} (o p : Option X) → is_some o ≡ true → or_else o p ≡ o
+pub or_some : {X : Type 0} (o p : Option X) → is_some o ≡ true → option_or o p ≡ o
 or_some (Some x) p h = refl
 or_some None p h = absurd cc
 
@@ -57,12 +53,12 @@ module _ {X : Type 0} (name_of : X → Bytes) where
   own_name x xs = ap (λ b. is_some (if b then Some x else named name_of xs (name_of x))) (bytes_eq-refl (name_of x))
 
 module _ {X : Type 0} (name_of : X → Bytes) where
-  pub named-append : (xs ys : List X) (n : Bytes) → named name_of (xs ++ ys) n ≡ or_else (named name_of xs n) (named name_of ys n)
+  pub named-append : (xs ys : List X) (n : Bytes) → named name_of (xs ++ ys) n ≡ option_or (named name_of xs n) (named name_of ys n)
   named-append [] ys n = refl
   named-append (x ∷ xs) ys n = one (bytes_eq (name_of x) n) (named-append xs ys n)
     where
-      one : (b : Bool) → named name_of (xs ++ ys) n ≡ or_else (named name_of xs n) (named name_of ys n)
-          → (if b then Some x else named name_of (xs ++ ys) n) ≡ or_else (if b then Some x else named name_of xs n) (named name_of ys n)
+      one : (b : Bool) → named name_of (xs ++ ys) n ≡ option_or (named name_of xs n) (named name_of ys n)
+          → (if b then Some x else named name_of (xs ++ ys) n) ≡ option_or (if b then Some x else named name_of xs n) (named name_of ys n)
       one true e = refl
       one false e = e
 
