@@ -1,3 +1,4 @@
 pub mod LinkLaws
 pub mod MergedNames
 pub mod Lookups
+pub mod MergedTables

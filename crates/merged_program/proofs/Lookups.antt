@@ -1,5 +1,5 @@
 -- The first of a list that has a name, in lists that are made of others.
-use Rattle.std.proofs.Common.{◌≡◌, Bool, true, false, ◌&&◌, if◌then◌else◌, List, [], ◌∷◌, ◌++◌, map, Option, Some, None, is_some, refl, sym, ap, ◌∙◌}
+use Rattle.std.proofs.Common.{◌≡◌, Bool, true, false, ◌&&◌, if◌then◌else◌, List, [], ◌∷◌, ◌++◌, map, Option, Some, None, is_some, refl, sym, ap, ap₂, ◌∙◌}
 use Rattle.std.specs.Option.{option_map, option_or}
 use Rattle.std.specs.List.{filter}
 use Rattle.std.specs.Str.{bytes_eq}
@@ -7,7 +7,7 @@ use Rattle.c_lang.specs.Names.{Bytes}
 use Rattle.c_lang.specs.Programs.{func_named, global_named}
 use Rattle.c_lang.specs.declared.program.Func.{Func}
 use Rattle.c_lang.specs.declared.program.GlobalVar.{GlobalVar}
-use Rattle.merged_program.proofs.MergedNames.{by_bool, true_false, same_names, bytes_eq-refl}
+use Rattle.merged_program.proofs.MergedNames.{by_bool, true_false, same_names}
 
 abbrev pub named : {X : Type 0} → (X → Bytes) → List X → Bytes → Option X
 named name_of [] n = None
@@ -48,9 +48,6 @@ module _ {X : Type 0} (name_of : X → Bytes) where
       one : (b : Bool) → is_some (if b then Some x else named name_of xs n) ≡ true
       one true = refl
       one false = h
-
-  pub own_name : (x : X) (xs : List X) → is_some (named name_of (x ∷ xs) (name_of x)) ≡ true
-  own_name x xs = ap (λ b. is_some (if b then Some x else named name_of xs (name_of x))) (bytes_eq-refl (name_of x))
 
 module _ {X : Type 0} (name_of : X → Bytes) where
   pub named-append : (xs ys : List X) (n : Bytes) → named name_of (xs ++ ys) n ≡ option_or (named name_of xs n) (named name_of ys n)
@@ -125,10 +122,22 @@ module _ {X : Type 0} (name_of : X → Bytes) where
         one false e = e
     named-map (y ∷ ys) n m false h = ap (λ c. if c then Some (make y) else named name_of (map make ys) n) (h y) ∙ named-map ys n m false h
 
-    -- no name of the list is this one
-    pub named-absent : (Has : Bytes → Type 0) (ys : List Y) (n : Bytes) → ((m : Bytes) → is_some (named other ys m) ≡ true → Has m)
-        → ((y : Y) → Has (other y) → bytes_eq (name_of (make y)) n ≡ false) → named name_of (map make ys) n ≡ None
-    named-absent Has [] n within apart = refl
-    named-absent Has (y ∷ ys) n within apart =
-        ap (λ b. if b then Some (make y) else named name_of (map make ys) n) (apart y (within (other y) (own_name other y ys)))
-        ∙ named-absent Has ys n (λ m h. within m (some_behind other y ys m h)) apart
+  -- no name of the list is this one
+  pub named-absent : {Y : Type 0} (make : Y → X) (ys : List Y) (n : Bytes) → ((y : Y) → bytes_eq (name_of (make y)) n ≡ false) → named name_of (map make ys) n ≡ None
+  named-absent make [] n apart = refl
+  named-absent make (y ∷ ys) n apart = ap (λ b. if b then Some (make y) else named name_of (map make ys) n) (apart y) ∙ named-absent make ys n apart
+
+-- ---- functions and globals
+
+pub no_func_named : (make : Func → Func) (fs : List Func) (n : Bytes) → ((f : Func) → bytes_eq (make f).name n ≡ false) → func_named (map make fs) n ≡ None
+no_func_named make fs n apart = func_named-is (map make fs) n ∙ named-absent name_of_func make fs n apart
+
+pub no_global_named : (make : GlobalVar → GlobalVar) (gs : List GlobalVar) (n : Bytes) → ((g : GlobalVar) → bytes_eq (make g).name n ≡ false) → global_named (map make gs) n ≡ None
+no_global_named make gs n apart = global_named-is (map make gs) n ∙ named-absent name_of_global make gs n apart
+
+pub funcs_append : (xs ys : List Func) (n : Bytes) → func_named (xs ++ ys) n ≡ option_or (func_named xs n) (func_named ys n)
+funcs_append xs ys n = func_named-is (xs ++ ys) n ∙ named-append name_of_func xs ys n ∙ ap₂ option_or (sym (func_named-is xs n)) (sym (func_named-is ys n))
+
+pub globals_append : (xs ys : List GlobalVar) (n : Bytes) → global_named (xs ++ ys) n ≡ option_or (global_named xs n) (global_named ys n)
+globals_append xs ys n =
+    global_named-is (xs ++ ys) n ∙ named-append name_of_global xs ys n ∙ ap₂ option_or (sym (global_named-is xs n)) (sym (global_named-is ys n))

@@ -1,7 +1,6 @@
--- The functions of a merged program by their names.
-use Rattle.std.proofs.Common.{◌≡◌, Bool, true, false, ◌&&◌, if◌then◌else◌, List, [], ◌∷◌, ◌++◌, map, Option, Some, None, unwrap_or, refl, sym, ap, ap₂, ◌∙◌, subst, codes, inl, inr}
-use Rattle.std.specs.Option.{option_map, option_or}
-use Rattle.std.specs.List.{filter}
+-- The functions of a merged program are those of its parts.
+use Rattle.std.proofs.Common.{◌≡◌, Bool, true, false, ◌&&◌, if◌then◌else◌, List, [], ◌∷◌, ◌++◌, Option, Some, None, unwrap_or, refl, sym, ap, ◌∙◌, subst, codes, inl, inr}
+use Rattle.std.specs.Option.{option_map}
 use Rattle.std.specs.Str.{bytes_eq}
 use Rattle.c_lang.specs.Names.{Bytes}
 use Rattle.c_lang.specs.Programs.{func_named, func_in, no_func}
@@ -17,11 +16,11 @@ use Rattle.version_names.specs.Home.{Home, Linked, same_home, same_linked}
 use Rattle.version_names.specs.Home as home
 use Rattle.version_names.specs.Provenance.{Provenance}
 use Rattle.version_names.specs.Provenance as origin
-use Rattle.update_semantics.specs.UpdatingRun.{World, Specification, client_funcs}
+use Rattle.update_semantics.specs.UpdatingRun.{World, client_funcs}
 use Rattle.merged_program.specs.Names.{code_name, variable_name, function_name}
-use Rattle.merged_program.specs.Programs.{ending, wrapper, merged_func, old_func, new_func, xform_func, client_func, is_wrapped, merged_main, merged_funcs, merged_program}
-use Rattle.merged_program.proofs.MergedNames.{same_codes}
-use Rattle.merged_program.proofs.Lookups.{name_of_func, func_named-is, or_none, named-append, named-filter, named-map}
+use Rattle.merged_program.specs.Programs.{ending, wrapper, merged_func, old_func, new_func, xform_func, client_func, merged_main, merged_funcs, merged_program}
+use Rattle.merged_program.proofs.Lookups.{or_none}
+use Rattle.merged_program.proofs.MergedTables.{table-is, wrapper-is}
 use Rattle.merged_runs.proofs.MergedNaming.{merged_naming}
 use Rattle.merged_runs.proofs.MergedStatements.{return_zero, bodies-merged}
 use Rattle.merged_runs.proofs.Relation.{Merging, transform_function}
@@ -38,52 +37,6 @@ module _ (W : World) where
     naming = merged_naming W;
     program = merged_program W;
   }
-
-  -- ---- each part of the list
-
-  -- the functions of one home
-  abbrev in_part : Home → (Func → Func) → List Func → Linked → Option Func
-  in_part h make fs k = if same_home h k.0 then option_map make (func_named fs k.1) else None
-
-  part-is : (h : Home) (make : Func → Func) → ((f : Func) → (make f).name ≡ code_name (h, f.name)) → (fs : List Func) (k : Linked)
-      → func_named (map make fs) (code_name k) ≡ in_part h make fs k
-  part-is h make names fs k =
-      func_named-is (map make fs) (code_name k)
-      ∙ named-map name_of_func name_of_func make fs (code_name k) k.1 (same_home h k.0)
-      (λ f. ap (λ n. bytes_eq n (code_name k)) (names f) ∙ same_codes (h, f.name) k)
-      ∙ ap (λ o. if same_home h k.0 then option_map make o else None) (sym (func_named-is fs k.1))
-
-  main-named : (c : Option Specification) → (merged_main W c).name ≡ codes "main"
-  main-named None = refl
-  main-named (Some c) = refl
-
-  abbrev at_main : Linked → Option Func
-  at_main k = if same_linked (home.Unlinked, codes "main") k then Some (merged_main W W.client) else None
-
-  main-is : (k : Linked) → func_named (merged_main W W.client ∷ []) (code_name k) ≡ at_main k
-  main-is k = ap (λ b. if b then Some (merged_main W W.client) else None)
-      (ap (λ n. bytes_eq n (code_name k)) (main-named W.client) ∙ same_codes (home.Unlinked, codes "main") k)
-
-  append-is : (xs ys : List Func) (n : Bytes) (a b : Option Func) → func_named xs n ≡ a → func_named ys n ≡ b → func_named (xs ++ ys) n ≡ option_or a b
-  append-is xs ys n a b e f =
-      func_named-is (xs ++ ys) n ∙ named-append name_of_func xs ys n
-      ∙ ap₂ option_or (sym (func_named-is xs n) ∙ e) (sym (func_named-is ys n) ∙ f)
-
-  abbrev table : Linked → Option Func
-  table k =
-      option_or (in_part home.Old (old_func W) W.first.funcs k)
-      (option_or (in_part home.New (new_func W) W.second.funcs k)
-      (option_or (in_part home.Both wrapper (filter (is_wrapped W) W.first.funcs) k)
-      (option_or (in_part home.Xform (xform_func W) W.xform.funcs k)
-      (option_or (in_part home.Client (client_func W) (client_funcs W) k) (at_main k)))))
-
-  pub table-is : (k : Linked) → func_named (merged_funcs W) (code_name k) ≡ table k
-  table-is k =
-      append-is _ _ (code_name k) _ _ (part-is home.Old (old_func W) (λ f. refl) W.first.funcs k)
-      (append-is _ _ (code_name k) _ _ (part-is home.New (new_func W) (λ f. refl) W.second.funcs k)
-      (append-is _ _ (code_name k) _ _ (part-is home.Both wrapper (λ f. refl) (filter (is_wrapped W) W.first.funcs) k)
-      (append-is _ _ (code_name k) _ _ (part-is home.Xform (xform_func W) (λ f. refl) W.xform.funcs k)
-      (append-is _ _ (code_name k) _ _ (part-is home.Client (client_func W) (λ f. refl) (client_funcs W) k) (main-is k)))))
 
   -- ---- functions of one part
 
@@ -117,22 +70,22 @@ module _ (W : World) where
   pub old-merged : (f : Bytes) → IsMerged M origin.Old (func_in W.first.funcs f) (func_in (merged_funcs W) (code_name (home.Old, f)))
   old-merged f = in-table origin.Old (old_func W) W.first.funcs (home.Old, f)
       (λ d. merged-func origin.Old _ (ending d) d (ending-behind (is_main d.name && can_end (body_of d.body)) d.pos))
-      (table-is (home.Old, f) ∙ or_none (option_map (old_func W) (func_named W.first.funcs f)))
+      (table-is W (home.Old, f) ∙ or_none (option_map (old_func W) (func_named W.first.funcs f)))
 
   pub new-merged : (f : Bytes) → IsMerged M origin.New (func_in W.second.funcs f) (func_in (merged_funcs W) (code_name (home.New, f)))
   new-merged f = in-table origin.New (new_func W) W.second.funcs (home.New, f)
       (λ d. merged-func origin.New _ (ending d) d (ending-behind (is_main d.name && can_end (body_of d.body)) d.pos))
-      (table-is (home.New, f) ∙ or_none (option_map (new_func W) (func_named W.second.funcs f)))
+      (table-is W (home.New, f) ∙ or_none (option_map (new_func W) (func_named W.second.funcs f)))
 
   pub xform-merged : (f : Bytes) → IsMerged M origin.Xform (func_in W.xform.funcs f) (func_in (merged_funcs W) (code_name (home.Xform, f)))
   xform-merged f = in-table origin.Xform (xform_func W) W.xform.funcs (home.Xform, f)
       (λ d. merged-func origin.Xform _ [] d (inl refl))
-      (table-is (home.Xform, f) ∙ or_none (option_map (xform_func W) (func_named W.xform.funcs f)))
+      (table-is W (home.Xform, f) ∙ or_none (option_map (xform_func W) (func_named W.xform.funcs f)))
 
   pub client-merged : (f : Bytes) → IsMerged M origin.Client (func_in (client_funcs W) f) (func_in (merged_funcs W) (code_name (home.Client, f)))
   client-merged f = in-table origin.Client (client_func W) (client_funcs W) (home.Client, f)
       (λ d. merged-func origin.Client _ [] d (inl refl))
-      (table-is (home.Client, f) ∙ or_none (option_map (client_func W) (func_named (client_funcs W) f)))
+      (table-is W (home.Client, f) ∙ or_none (option_map (client_func W) (func_named (client_funcs W) f)))
 
   pub transform-merged : HasTransform M
   transform-merged = record { merged = xform-merged transform_function }
@@ -142,16 +95,11 @@ module _ (W : World) where
   -- a name that is linked nowhere is no function's, but for `main`
   pub none-named : (now : Version) (f : Bytes) → bytes_eq (codes "main") f ≡ false → IsDirect M now (home.Unlinked, f)
   none-named now f h = subst (λ a. IsMerged M origin.Old no_func (unwrap_or a no_func))
-      (sym (table-is (home.Unlinked, f) ∙ ap (λ b. if b then Some (merged_main W W.client) else None) h)) (no-func origin.Old)
+      (sym (table-is W (home.Unlinked, f) ∙ ap (λ b. if b then Some (merged_main W W.client) else None) h)) (no-func origin.Old)
 
   pub main-in : func_in (merged_funcs W) (codes "main") ≡ merged_main W W.client
-  main-in = ap (λ a. unwrap_or a no_func) (table-is (home.Unlinked, codes "main"))
+  main-in = ap (λ a. unwrap_or a no_func) (table-is W (home.Unlinked, codes "main"))
 
   -- the wrapper of a shared function
   pub wrapper-in : (f : Bytes) → is_shared_code W.first W.second f ≡ true → func_named (merged_funcs W) (code_name (home.Both, f)) ≡ option_map wrapper (func_named W.first.funcs f)
-  wrapper-in f shared =
-      table-is (home.Both, f)
-      ∙ or_none (option_map wrapper (func_named (filter (is_wrapped W) W.first.funcs) f))
-      ∙ ap (option_map wrapper)
-      (func_named-is (filter (is_wrapped W) W.first.funcs) f ∙ named-filter name_of_func (is_shared_code W.first W.second) W.first.funcs f shared
-      ∙ sym (func_named-is W.first.funcs f))
+  wrapper-in f shared = table-is W (home.Both, f) ∙ wrapper-is W f shared

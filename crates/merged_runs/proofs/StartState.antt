@@ -1,8 +1,6 @@
--- The globals of a merged program by their names, and what they hold at the start.
-use Rattle.std.proofs.Common.{◌≡◌, Bool, true, false, not, ◌&&◌, if◌then◌else◌, List, ◌++◌, map, Option, Some, None, is_some, refl, sym, ap, ap₂, ◌∙◌, subst, ◌⊎◌, inl, inr}
+-- The globals of a merged program are those of its parts, and what they hold at the start.
+use Rattle.std.proofs.Common.{◌≡◌, Bool, true, false, if◌then◌else◌, Option, Some, None, is_some, refl, sym, ap, ap₂, ◌∙◌, subst, ◌⊎◌, inl, inr}
 use Rattle.std.specs.Option.{option_map, option_or}
-use Rattle.std.specs.List.{filter}
-use Rattle.std.specs.Str.{bytes_eq}
 use Rattle.c_lang.specs.Names.{Bytes}
 use Rattle.c_lang.specs.Programs.{global_named, initial_value, initial_elements, shape_value, shape_elements}
 use Rattle.c_lang.specs.declared.program.Shape.{Shape}
@@ -18,11 +16,11 @@ use Rattle.version_names.specs.Home as home
 use Rattle.version_names.specs.Provenance.{Provenance}
 use Rattle.version_names.specs.Provenance as origin
 use Rattle.update_semantics.specs.UpdatingRun.{World, State, swapped_state, cell_meaning, function_meaning, first_state}
-use Rattle.merged_program.specs.Names.{now_name, cell_name, code_name, variable_name}
-use Rattle.merged_program.specs.Programs.{flag, merged_shape, merged_global, is_own_cell, merged_globals}
-use Rattle.merged_program.proofs.MergedNames.{true_false, bytes_eq-sym, same_cells, cell_apart-now}
-use Rattle.merged_program.proofs.Lookups.{name_of_global, global_named-is, or_some, some_mapped, named-append, named-filter, filter-passes, named-map, named-absent}
-use Rattle.merged_runs.proofs.MergedNaming.{merged_naming}
+use Rattle.merged_program.specs.Names.{cell_name, code_name, variable_name}
+use Rattle.merged_program.specs.Programs.{merged_shape, merged_global, merged_globals}
+use Rattle.merged_program.proofs.MergedNames.{true_false, same_home-refl}
+use Rattle.merged_program.proofs.Lookups.{or_some, some_mapped}
+use Rattle.merged_program.proofs.MergedTables.{globals_in, own_globals, cells-is, own_named, no_old_at_new, no_cell_elsewhere}
 use Rattle.merged_runs.proofs.EvaluationRenamed.{renamed_value}
 use Rattle.merged_runs.proofs.Relation.{SameState}
 use Rattle.merged_runs.proofs.Meanings.{IsFoundCell, cell-found}
@@ -30,12 +28,7 @@ use Rattle.merged_runs.proofs.FunctionTable.{M}
 
 -- ---- where a version's global stands
 
-old-is-no-new : (has shared : Bool) → same_home (links.part version.Old has shared) home.New ≡ false
-old-is-no-new true true = refl
-old-is-no-new true false = refl
-old-is-no-new false shared = refl
-
-new-is-own : (has shared : Bool) → links.part version.New has shared ≡ home.New → not shared ≡ true
+new-is-own : (has shared : Bool) → links.part version.New has shared ≡ home.New → shared ≡ false
 new-is-own has false e = refl
 new-is-own true true e = absurd cc
 new-is-own false true e = absurd cc
@@ -45,82 +38,7 @@ old-has : (has shared : Bool) (p : Home) → links.part version.Old has shared �
 old-has true shared p e apart = refl
 old-has false shared p e apart = absurd (true_false (ap (same_home home.Unlinked) e ∙ apart))
 
--- a global that a version has stands in no other home than these three
-apart-from-cells : (p : Home) → same_home home.Both p ≡ false → same_home home.Old p ≡ false → same_home home.New p ≡ false
-    → (v : Version) (has shared : Bool) → has ≡ true → same_home (links.part v has shared) p ≡ false
-apart-from-cells p b o n version.Old true true h = b
-apart-from-cells p b o n version.Old true false h = o
-apart-from-cells p b o n version.New true true h = b
-apart-from-cells p b o n version.New true false h = n
-apart-from-cells p b o n v false shared h = absurd cc
-
 module _ (W : World) where
-  -- ---- the globals of both versions
-
-  abbrev olds : List GlobalVar
-  olds = map (merged_global W origin.Old) W.first.globals
-
-  abbrev own_news : List GlobalVar
-  own_news = filter (is_own_cell W) W.second.globals
-
-  abbrev news : List GlobalVar
-  news = map (merged_global W origin.New) own_news
-
-  whole-is : (k : Linked) (a b : Option GlobalVar) → global_named olds (cell_name k) ≡ a → global_named news (cell_name k) ≡ b
-      → global_named (merged_globals W) (cell_name k) ≡ option_or a b
-  whole-is k a b e f =
-      ap (λ c. if c then Some flag else global_named (olds ++ news) (cell_name k)) (bytes_eq-sym now_name (cell_name k) ∙ cell_apart-now k)
-      ∙ global_named-is (olds ++ news) (cell_name k) ∙ named-append name_of_global olds news (cell_name k)
-      ∙ ap₂ option_or (sym (global_named-is olds (cell_name k)) ∙ e) (sym (global_named-is news (cell_name k)) ∙ f)
-
-  old-is : (x : Bytes) → global_named olds (variable_name W origin.Old x) ≡ option_map (merged_global W origin.Old) (global_named W.first.globals x)
-  old-is x =
-      global_named-is olds (variable_name W origin.Old x)
-      ∙ named-map name_of_global name_of_global (merged_global W origin.Old) W.first.globals (variable_name W origin.Old x) x true
-      (λ g. (merged_naming W).locals origin.Old g.name x)
-      ∙ ap (option_map (merged_global W origin.Old)) (sym (global_named-is W.first.globals x))
-
-  new-is : (x : Bytes) → not (is_shared_cell W.first W.second x) ≡ true
-      → global_named news (variable_name W origin.New x) ≡ option_map (merged_global W origin.New) (global_named W.second.globals x)
-  new-is x own =
-      global_named-is news (variable_name W origin.New x)
-      ∙ named-map name_of_global name_of_global (merged_global W origin.New) own_news (variable_name W origin.New x) x true
-      (λ g. (merged_naming W).locals origin.New g.name x)
-      ∙ ap (option_map (merged_global W origin.New))
-      (named-filter name_of_global (λ y. not (is_shared_cell W.first W.second y)) W.second.globals x own ∙ sym (global_named-is W.second.globals x))
-
-  no-old-at-new : (x : Bytes) → global_named olds (cell_name (home.New, x)) ≡ None
-  no-old-at-new x =
-      global_named-is olds (cell_name (home.New, x))
-      ∙ named-map name_of_global name_of_global (merged_global W origin.Old) W.first.globals (cell_name (home.New, x)) x false
-      (λ g. same_cells (cell_meaning W origin.Old g.name) (home.New, x)
-      ∙ ap (λ b. b && bytes_eq g.name x) (old-is-no-new (is_some (global_named W.first.globals g.name)) (is_shared_cell W.first W.second g.name)))
-
-  -- ---- and of neither
-
-  module _ (p : Home) (b : same_home home.Both p ≡ false) (o : same_home home.Old p ≡ false) (n : same_home home.New p ≡ false) (x : Bytes) where
-    has-none : (v : Version) (y : Bytes) (has shared : Bool) → has ≡ true → bytes_eq (cell_name (links.part v has shared, y)) (cell_name (p, x)) ≡ false
-    has-none v y has shared h =
-        same_cells (links.part v has shared, y) (p, x) ∙ ap (λ c. c && bytes_eq y x) (apart-from-cells p b o n v has shared h)
-
-    no-old : global_named olds (cell_name (p, x)) ≡ None
-    no-old =
-        global_named-is olds (cell_name (p, x))
-        ∙ named-absent name_of_global name_of_global (merged_global W origin.Old) (λ y. is_some (global_named W.first.globals y) ≡ true) W.first.globals (cell_name (p, x))
-        (λ y h. ap is_some (global_named-is W.first.globals y) ∙ h)
-        (λ g h. has-none version.Old g.name (is_some (global_named W.first.globals g.name)) (is_shared_cell W.first W.second g.name) h)
-
-    no-new : global_named news (cell_name (p, x)) ≡ None
-    no-new =
-        global_named-is news (cell_name (p, x))
-        ∙ named-absent name_of_global name_of_global (merged_global W origin.New) (λ y. is_some (global_named W.second.globals y) ≡ true) own_news (cell_name (p, x))
-        (λ y h. ap is_some (global_named-is W.second.globals y)
-        ∙ (filter-passes name_of_global (λ z. not (is_shared_cell W.first W.second z)) W.second.globals y h).1)
-        (λ g h. has-none version.New g.name (is_some (global_named W.second.globals g.name)) (is_shared_cell W.first W.second g.name) h)
-
-    none-in : global_named (merged_globals W) (cell_name (p, x)) ≡ None
-    none-in = whole-is (p, x) None None no-old no-new
-
   -- ---- the table
 
   abbrev in_globals : Linked → Option GlobalVar
@@ -135,26 +53,28 @@ module _ (W : World) where
       → global_named (merged_globals W) (cell_name (p, x)) ≡ option_map (merged_global W origin.Old) (global_named W.first.globals x)
   old-in p x e apart =
       let own = option_map (merged_global W origin.Old) (global_named W.first.globals x) in
-      whole-is (p, x) own (global_named news (cell_name (p, x)))
-      (subst (λ h. global_named olds (cell_name (h, x)) ≡ own) e (old-is x)) refl
-      ∙ or_some own (global_named news (cell_name (p, x)))
+      let rest = globals_in W version.New origin.New (own_globals W) (p, x) in
+      cells-is W (p, x)
+      ∙ ap (λ b. option_or (if b then own else None) rest) (ap (λ h. same_home h p) e ∙ same_home-refl p)
+      ∙ or_some own rest
       (some_mapped (merged_global W origin.Old) (global_named W.first.globals x)
       ∙ old-has (is_some (global_named W.first.globals x)) (is_shared_cell W.first W.second x) p e apart)
 
   new-in : (x : Bytes) → cell_part W.first W.second version.New x ≡ home.New
       → global_named (merged_globals W) (cell_name (home.New, x)) ≡ option_map (merged_global W origin.New) (global_named W.second.globals x)
   new-in x e =
-      whole-is (home.New, x) None _ (no-old-at-new x)
-      (subst (λ h. global_named news (cell_name (h, x)) ≡ option_map (merged_global W origin.New) (global_named W.second.globals x)) e
-      (new-is x (new-is-own (is_some (global_named W.second.globals x)) (is_shared_cell W.first W.second x) e)))
+      cells-is W (home.New, x)
+      ∙ ap₂ option_or (no_old_at_new W x)
+      (ap₂ (λ h a. if same_home h home.New then option_map (merged_global W origin.New) a else None) e
+      (own_named W x (new-is-own (is_some (global_named W.second.globals x)) (is_shared_cell W.first W.second x) e)))
 
   globals-are : (k : Linked) → IsFoundCell W k → global_named (merged_globals W) (cell_name k) ≡ in_globals k
   globals-are (home.Both, x) h = old-in home.Both x h refl
   globals-are (home.Old, x) h = old-in home.Old x h refl
   globals-are (home.New, x) h = new-in x h
-  globals-are (home.Xform, x) h = none-in home.Xform refl refl refl x
-  globals-are (home.Client, x) h = none-in home.Client refl refl refl x
-  globals-are (home.Unlinked, x) h = none-in home.Unlinked refl refl refl x
+  globals-are (home.Xform, x) h = no_cell_elsewhere W home.Xform x (refl, (refl, refl))
+  globals-are (home.Client, x) h = no_cell_elsewhere W home.Client x (refl, (refl, refl))
+  globals-are (home.Unlinked, x) h = no_cell_elsewhere W home.Unlinked x (refl, (refl, refl))
 
   meant-globals : (o : Provenance) (x : Bytes) → global_named (merged_globals W) (variable_name W o x) ≡ in_globals (cell_meaning W o x)
   meant-globals o x = by_meaning (cell-found W o x)
@@ -162,7 +82,7 @@ module _ (W : World) where
       by_meaning : IsFoundCell W (cell_meaning W o x) ⊎ (cell_meaning W o x ≡ (home.Unlinked, x))
           → global_named (merged_globals W) (variable_name W o x) ≡ in_globals (cell_meaning W o x)
       by_meaning (inl h) = globals-are (cell_meaning W o x) h
-      by_meaning (inr e) = subst (λ k. global_named (merged_globals W) (cell_name k) ≡ in_globals k) (sym e) (none-in home.Unlinked refl refl refl x)
+      by_meaning (inr e) = subst (λ k. global_named (merged_globals W) (cell_name k) ≡ in_globals k) (sym e) (no_cell_elsewhere W home.Unlinked x (refl, (refl, refl)))
 
   -- ---- initial values
 

@@ -13,7 +13,7 @@ mod SameFlow
 mod ResolvedFuncs
 pub mod PlainPrograms
 mod MergedNaming
-mod MergedTables
+mod UnitNames
 mod VersionNames
 mod NewNames
 mod UpdateNames

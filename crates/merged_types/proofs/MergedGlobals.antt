@@ -23,10 +23,10 @@ use Rattle.update_semantics.specs.UpdatingRun.{World, cell_meaning}
 use Rattle.merged_program.specs.Names.{variable_name, function_name}
 use Rattle.merged_program.specs.Programs.{flag, merged_shape, merged_global, is_own_cell, merged_globals}
 use Rattle.merged_program.proofs.MergedNames.{cell_apart-now}
+use Rattle.merged_program.proofs.MergedTables.{globals-is, own_globals}
 use Rattle.merged_types.proofs.MergedNaming.{merged_naming}
 use Rattle.merged_types.proofs.Carrying.{value_meant}
 use Rattle.merged_types.proofs.CarriedScopes.{IsOutside}
-use Rattle.merged_types.proofs.MergedTables.{globals-is, own_globals}
 use Rattle.merged_types.proofs.VersionNames.{merged_outside}
 use Rattle.merged_types.proofs.PlainPrograms.{AreNewGlobals, Each, all_cells}
 use Rattle.merged_types.proofs.NewNames.{globals_none, new_globals_append, new_globals_made, new_globals_filtered, each_append, each_map, each_filter}

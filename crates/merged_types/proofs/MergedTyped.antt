@@ -25,11 +25,12 @@ use Rattle.update_semantics.specs.UpdatingRun.{World}
 use Rattle.state_xform.specs.Transformers.{is_start}
 use Rattle.merged_program.specs.Names.{variable_name, function_name}
 use Rattle.merged_program.specs.Programs.{wrapper, starting, merged_globals, merged_main, old_func, new_func, xform_func, is_wrapped, merged_funcs, merged_program}
+use Rattle.merged_program.proofs.Lookups.{no_func_named}
+use Rattle.merged_program.proofs.MergedTables.{no_old_cell, no_new_cell, no_wrapper_cell, no_xform_cell}
 use Rattle.merged_types.proofs.MergedNaming.{merged_naming}
 use Rattle.merged_types.proofs.CarriedScopes.{IsOutside, HasUpdate}
 use Rattle.merged_types.proofs.ResolvedFuncs.{IsResolvedFunc, version_merged, merged_alone}
 use Rattle.merged_types.proofs.PlainPrograms.{AreNew, Each, IsResolvedProgram, typed_plain, resolved_back}
-use Rattle.merged_types.proofs.MergedTables.{no_func_named, no_old_cell, no_new_cell, no_wrapper_cell, no_xform_cell}
 use Rattle.merged_types.proofs.VersionNames.{first_outside, second_outside, merged_outside, old_names, new_names, old_code, new_code, kinds_sound, result_sound, nowhere_cell}
 use Rattle.merged_types.proofs.UpdateNames.{has_update, parameter_free, result_free}
 use Rattle.merged_types.proofs.CallsTyped.{starting_resolved, wrapper_typed}

@@ -17,7 +17,7 @@ use Rattle.c_types.proofs.Combined.{both_true}
 use Rattle.merged_program.specs.Programs.{declared}
 use Rattle.merged_program.proofs.MergedNames.{by_bool, true_false, same_names, bytes_eq-refl, bytes_eq-sym}
 use Rattle.merged_types.proofs.EntryLaws.{one, found_added}
-use Rattle.merged_types.proofs.MergedTables.{means_of_global, found_globals, found_funcs}
+use Rattle.merged_types.proofs.UnitNames.{means_of_global, found_globals, found_funcs}
 use Rattle.merged_types.proofs.PlainPrograms.{AreNew, AreNewGlobals, Each}
 
 -- ---- what isn't there

@@ -37,10 +37,11 @@ use Rattle.merged_program.specs.Names.{cell_name, code_name, variable_name, func
 use Rattle.merged_program.specs.Programs.{xform_func}
 use Rattle.merged_program.proofs.MergedNames.{by_bool, true_false, same_names, bytes_eq-refl}
 use Rattle.merged_program.proofs.Lookups.{or_none}
+use Rattle.merged_program.proofs.MergedTables.{no_xform_cell}
 use Rattle.merged_types.proofs.MergedNaming.{merged_naming}
 use Rattle.merged_types.proofs.Carrying.{IsKeptCell, IsKeptCode}
 use Rattle.merged_types.proofs.CarriedScopes.{IsOutside}
-use Rattle.merged_types.proofs.MergedTables.{means_of_global, no_xform_cell}
+use Rattle.merged_types.proofs.UnitNames.{means_of_global}
 use Rattle.merged_types.proofs.LinkedNames.{linked_both, linked_old, linked_new, linked_nowhere}
 use Rattle.merged_types.proofs.VersionNames.{merged_outside, kept_some, shape_no_code, kept_func, same_means, kinds_merged, old_cell, shared_cell, new_alone, nowhere, code_found, old_code, new_code, wrapper_code, shared_code}
 use Rattle.merged_types.proofs.PlainPrograms.{AreNew, Each, IsResolvedProgram}

@@ -26,8 +26,9 @@ use Rattle.merged_program.specs.Names.{now_name, choice_name, result_name, param
 use Rattle.merged_program.specs.Programs.{merged_globals, merged_param, wrapper, old_func, new_func, xform_func, client_func, is_wrapped, merged_main, merged_funcs}
 use Rattle.state_xform.specs.Transformers.{is_start}
 use Rattle.merged_program.proofs.MergedNames.{to_false, same_names, kept-own}
-use Rattle.merged_program.proofs.Lookups.{or_none}
-use Rattle.merged_types.proofs.MergedTables.{either_means, found_outside, no_func_named, funcs_append, no_cell, no_xform_cell}
+use Rattle.merged_program.proofs.Lookups.{or_none, no_func_named, funcs_append}
+use Rattle.merged_program.proofs.MergedTables.{no_cell, no_xform_cell}
+use Rattle.merged_types.proofs.UnitNames.{either_means, found_outside}
 use Rattle.merged_types.proofs.CarriedScopes.{HasUpdate}
 use Rattle.merged_types.proofs.NewNames.{empty_is}
 use Rattle.merged_types.proofs.VersionNames.{merged_outside, code_found}

@@ -1,7 +1,6 @@
 -- What a version's names stand for in its merged code.
 use Rattle.std.proofs.Common.{◌≡◌, ℕ, ◌+◌, Bool, true, false, if◌then◌else◌, List, [], ◌∷◌, map, Option, Some, None, is_some, refl, sym, ap, ap₂, ◌∙◌, subst, arith, codes}
 use Rattle.std.specs.Option.{option_map, option_or}
-use Rattle.std.specs.List.{filter}
 use Rattle.std.specs.Str.{bytes_eq}
 use Rattle.std.proofs.lemmas.Bool.Decides.{nat_tests}
 use Rattle.c_lang.specs.Names.{Bytes}
@@ -25,11 +24,12 @@ use Rattle.version_names.specs.Home as home
 use Rattle.version_names.specs.Provenance as origin
 use Rattle.update_semantics.specs.UpdatingRun.{World}
 use Rattle.merged_program.specs.Names.{cell_name, code_name, kept_name, variable_name, function_name}
-use Rattle.merged_program.specs.Programs.{parameters_from, wrapper, merged_shape, merged_global, merged_globals, merged_param, merged_funcs, merged_main, old_func, new_func, is_wrapped}
+use Rattle.merged_program.specs.Programs.{parameters_from, wrapper, merged_shape, merged_global, merged_globals, merged_param, merged_funcs, merged_main, old_func, new_func}
 use Rattle.merged_program.proofs.MergedNames.{by_bool, same_names, same_home-refl}
-use Rattle.merged_program.proofs.Lookups.{name_of_func, func_named-is, or_none, named-filter}
+use Rattle.merged_program.proofs.Lookups.{or_none}
+use Rattle.merged_program.proofs.MergedTables.{table, table-is, cells_table, cells-is, own_globals, own_named, no_wrapper_cell, no_old_cell, no_new_cell, no_old_at_new, no_cell_elsewhere, wrapper-is}
 use Rattle.merged_types.proofs.MergedNaming.{merged_naming}
-use Rattle.merged_types.proofs.MergedTables.{means_of_global, either_means, found_outside, table, table-is, cells_table, cells-is, own_globals, own_named, own_unnamed, no_wrapper_cell, no_old_cell, no_new_cell}
+use Rattle.merged_types.proofs.UnitNames.{means_of_global, either_means, found_outside}
 use Rattle.merged_types.proofs.Carrying.{IsKeptCell, IsKeptCode, IsKeptValue}
 use Rattle.merged_types.proofs.CarriedScopes.{IsOutside}
 
@@ -142,17 +142,9 @@ module _ (W : World) where
   new_alone x g s e =
       let here : part_of version.New (is_some (global_named W.second.globals x)) (is_shared_cell W.first W.second x) ≡ home.New = ap₂ (part_of version.New) (ap is_some e) s in
       cell_found (home.New, x) (merged_global W origin.New g) (means_of_global g)
-      (ap₂ option_or (not_old (is_some (global_named W.first.globals x)))
+      (ap₂ option_or (no_old_at_new W x)
       (ap₂ (λ (p : Home) (o : Option GlobalVar). if same_home p home.New then option_map (merged_global W origin.New) o else None) here (own_named W x s ∙ e)))
       (shape_same origin.New g.shape)
-    where
-      not_old : (b : Bool) → (if same_home (part_of version.Old b (is_shared_cell W.first W.second x)) home.New then option_map (merged_global W origin.Old) (global_named W.first.globals x) else None) ≡ None
-      not_old true = either (is_shared_cell W.first W.second x)
-        where
-          either : (s : Bool) → (if same_home (part_of version.Old true s) home.New then option_map (merged_global W origin.Old) (global_named W.first.globals x) else None) ≡ None
-          either true = refl
-          either false = refl
-      not_old false = refl
 
   pub new_cell : (x : Bytes) (g : GlobalVar) → global_named W.second.globals x ≡ Some g → found merged_outside (variable_name W origin.New x) ≡ Some (means_of_global g)
   new_cell x g e = by_bool (is_shared_cell W.first W.second x)
@@ -161,20 +153,8 @@ module _ (W : World) where
 
   -- ---- names that are linked nowhere
 
-  unlinked_in : {X Y : Type 0} (v : version.Version) (shared : Bool) (o : Option X) (make : Y → GlobalVar) (p : Option Y) → (o ≡ None → p ≡ None)
-      → (if same_home (part_of v (is_some o) shared) home.Unlinked then option_map make p else None) ≡ None
-  unlinked_in version.Old true (Some x) make p h = refl
-  unlinked_in version.Old false (Some x) make p h = refl
-  unlinked_in version.New true (Some x) make p h = refl
-  unlinked_in version.New false (Some x) make p h = refl
-  unlinked_in version.Old shared None make p h = ap (option_map make) (h refl)
-  unlinked_in version.New shared None make p h = ap (option_map make) (h refl)
-
   pub nowhere_cell : (x : Bytes) → global_named (merged_globals W) (kept_name x) ≡ None
-  nowhere_cell x =
-      cells-is W (home.Unlinked, x) ∙ ap₂ option_or
-      (unlinked_in version.Old (is_shared_cell W.first W.second x) (global_named W.first.globals x) (merged_global W origin.Old) (global_named W.first.globals x) (λ h. h))
-      (unlinked_in version.New (is_shared_cell W.first W.second x) (global_named W.second.globals x) (merged_global W origin.New) (global_named (own_globals W) x) (own_unnamed W x))
+  nowhere_cell x = no_cell_elsewhere W home.Unlinked x (refl, (refl, refl))
 
   pub nowhere : (x : Bytes) → bytes_eq (codes "main") x ≡ false → found merged_outside (kept_name x) ≡ None
   nowhere x apart =
@@ -212,10 +192,7 @@ module _ (W : World) where
       → found merged_outside (code_name (home.Both, f)) ≡ Some (means_of_func d)
   wrapper_code f d s e =
       code_found (home.Both, f) (wrapper d) (means_of_func d) (no_wrapper_cell W f)
-      (or_none (option_map wrapper (func_named (filter (is_wrapped W) W.first.funcs) f))
-      ∙ ap (option_map wrapper)
-      (func_named-is (filter (is_wrapped W) W.first.funcs) f ∙ named-filter name_of_func (is_shared_code W.first W.second) W.first.funcs f s
-      ∙ sym (func_named-is W.first.funcs f) ∙ e))
+      (wrapper-is W f s ∙ ap (option_map wrapper) e)
       (same_means (wrapper d) d (kinds_from 1 (kinds_of d.params)) refl)
 
   pub shared_code : (f : Bytes) (d : Func) → is_shared_code W.first W.second f ≡ true → func_named W.second.funcs f ≡ Some d

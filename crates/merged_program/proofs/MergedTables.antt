@@ -1,5 +1,5 @@
 -- The globals and functions of a merged program by their names.
-use Rattle.std.proofs.Common.{◌≡◌, Bool, true, false, not, ◌&&◌, if◌then◌else◌, cond, List, [], ◌∷◌, ◌++◌, map, Option, Some, None, is_some, refl, sym, ap, ap₂, ◌∙◌, codes}
+use Rattle.std.proofs.Common.{◌≡◌, Bool, true, false, not, ◌&&◌, if◌then◌else◌, List, [], ◌∷◌, ◌++◌, map, Option, Some, None, is_some, refl, sym, ap, ap₂, ◌∙◌, codes}
 use Rattle.std.specs.Option.{option_map, option_or}
 use Rattle.std.specs.List.{filter}
 use Rattle.std.specs.Str.{bytes_eq}
@@ -7,9 +7,6 @@ use Rattle.c_lang.specs.Names.{Bytes}
 use Rattle.c_lang.specs.Programs.{global_named, func_named}
 use Rattle.c_lang.specs.declared.program.GlobalVar.{GlobalVar}
 use Rattle.c_lang.specs.declared.program.Func.{Func}
-use Rattle.c_types.specs.Names.{Means, Entries, found}
-use Rattle.c_types.specs.Functions.{means_of_func}
-use Rattle.c_types.specs.Programs.{means_of_shape, with_global, with_globals, with_func, with_funcs, outside_of}
 use Rattle.version_names.specs.Links as links
 use Rattle.version_names.specs.Links.{is_shared_cell, is_shared_code, cell_part, code_part}
 use Rattle.version_names.specs.Version as version
@@ -20,62 +17,7 @@ use Rattle.update_semantics.specs.UpdatingRun.{World, Specification, client_func
 use Rattle.merged_program.specs.Names.{now_name, cell_name, code_name, variable_name}
 use Rattle.merged_program.specs.Programs.{flag, merged_global, is_own_cell, merged_globals, wrapper, old_func, new_func, xform_func, client_func, is_wrapped, merged_main, merged_funcs}
 use Rattle.merged_program.proofs.MergedNames.{by_bool, same_names, bytes_eq-sym, kept-own, same_cells, same_codes, cell_apart-now}
-use Rattle.merged_program.proofs.Lookups.{named, name_of_func, name_of_global, func_named-is, global_named-is, or_none, named-append, named-filter, filter-passes, named-map}
-use Rattle.merged_types.proofs.EntryLaws.{found_added}
-
--- ---- what is visible in a whole unit
-
-abbrev pub means_of_global : GlobalVar → Means
-means_of_global g = means_of_shape g.shape
-
-or_first : {X Y : Type 0} (o : Option Y) (make : X → Y) (x : X) (p : Option X) (b : Bool) (y : Y) → make x ≡ y
-    → option_or (option_or o (cond b (Some y) None)) (option_map make p) ≡ option_or o (option_map make (if b then Some x else p))
-or_first (Some z) make x p b y e = refl
-or_first None make x p true y e = ap Some (sym e)
-or_first None make x p false y e = refl
-
-pub found_globals : (es : Entries) (gs : List GlobalVar) (x : Bytes) → found (with_globals es gs) x ≡ option_or (found es x) (option_map means_of_global (global_named gs x))
-found_globals es [] x = sym (or_none (found es x))
-found_globals es (g ∷ gs) x =
-    found_globals (with_global es g) gs x
-    ∙ ap (λ (o : Option Means). option_or o (option_map means_of_global (global_named gs x)))
-    (found_added es x g.name (means_of_global g) ∙ ap (λ (b : Bool). option_or (found es x) (cond b (Some (means_of_global g)) None)) (bytes_eq-sym x g.name))
-    ∙ or_first (found es x) means_of_global g (global_named gs x) (bytes_eq g.name x) (means_of_global g) refl
-
-pub found_funcs : (es : Entries) (fs : List Func) (x : Bytes) → found (with_funcs es fs) x ≡ option_or (found es x) (option_map means_of_func (func_named fs x))
-found_funcs es [] x = sym (or_none (found es x))
-found_funcs es (f ∷ fs) x =
-    found_funcs (with_func es f) fs x
-    ∙ ap (λ (o : Option Means). option_or o (option_map means_of_func (func_named fs x)))
-    (found_added es x f.name (means_of_func f) ∙ ap (λ (b : Bool). option_or (found es x) (cond b (Some (means_of_func f)) None)) (bytes_eq-sym x f.name))
-    ∙ or_first (found es x) means_of_func f (func_named fs x) (bytes_eq f.name x) (means_of_func f) refl
-
--- a global or a function with this name
-abbrev pub either_means : Option GlobalVar → Option Func → Option Means
-either_means g f = option_or (option_map means_of_global g) (option_map means_of_func f)
-
-pub found_outside : (gs : List GlobalVar) (fs : List Func) (x : Bytes) → found (outside_of gs fs) x ≡ either_means (global_named gs x) (func_named fs x)
-found_outside gs fs x =
-    found_funcs (with_globals [] gs) fs x
-    ∙ ap (λ (o : Option Means). option_or o (option_map means_of_func (func_named fs x))) (found_globals [] gs x)
-
--- ---- lists without names
-
--- no name of the list is this one
-pub no_func_named : (make : Func → Func) (fs : List Func) (n : Bytes) → ((f : Func) → bytes_eq (make f).name n ≡ false) → func_named (map make fs) n ≡ None
-no_func_named make [] n apart = refl
-no_func_named make (f ∷ fs) n apart = ap (λ (b : Bool). if b then Some (make f) else func_named (map make fs) n) (apart f) ∙ no_func_named make fs n apart
-
-pub no_global_named : (make : GlobalVar → GlobalVar) (gs : List GlobalVar) (n : Bytes) → ((g : GlobalVar) → bytes_eq (make g).name n ≡ false) → global_named (map make gs) n ≡ None
-no_global_named make [] n apart = refl
-no_global_named make (g ∷ gs) n apart = ap (λ (b : Bool). if b then Some (make g) else global_named (map make gs) n) (apart g) ∙ no_global_named make gs n apart
-
-pub funcs_append : (xs ys : List Func) (n : Bytes) → func_named (xs ++ ys) n ≡ option_or (func_named xs n) (func_named ys n)
-funcs_append xs ys n = func_named-is (xs ++ ys) n ∙ named-append name_of_func xs ys n ∙ ap₂ option_or (sym (func_named-is xs n)) (sym (func_named-is ys n))
-
-pub globals_append : (xs ys : List GlobalVar) (n : Bytes) → global_named (xs ++ ys) n ≡ option_or (global_named xs n) (global_named ys n)
-globals_append xs ys n =
-    global_named-is (xs ++ ys) n ∙ named-append name_of_global xs ys n ∙ ap₂ option_or (sym (global_named-is xs n)) (sym (global_named-is ys n))
+use Rattle.merged_program.proofs.Lookups.{named, name_of_func, name_of_global, func_named-is, global_named-is, or_none, named-filter, filter-passes, named-map, no_global_named, funcs_append, globals_append}
 
 module _ (W : World) where
   -- ---- functions
@@ -121,6 +63,14 @@ module _ (W : World) where
       (append-is _ _ (code_name k) _ _ (part-is home.Both wrapper (λ f. refl) (filter (is_wrapped W) W.first.funcs) k)
       (append-is _ _ (code_name k) _ _ (part-is home.Xform (xform_func W) (λ f. refl) W.xform.funcs k)
       (append-is _ _ (code_name k) _ _ (part-is home.Client (client_func W) (λ f. refl) (client_funcs W) k) (main-is k)))))
+
+  -- the wrapper of a shared function
+  pub wrapper-is : (f : Bytes) → is_shared_code W.first W.second f ≡ true → table (home.Both, f) ≡ option_map wrapper (func_named W.first.funcs f)
+  wrapper-is f shared =
+      or_none (option_map wrapper (func_named (filter (is_wrapped W) W.first.funcs) f))
+      ∙ ap (option_map wrapper)
+      (func_named-is (filter (is_wrapped W) W.first.funcs) f ∙ named-filter name_of_func (is_shared_code W.first W.second) W.first.funcs f shared
+      ∙ sym (func_named-is W.first.funcs f))
 
   -- ---- globals
 
@@ -217,14 +167,6 @@ module _ (W : World) where
   part_new_old true false = refl
   part_new_old false shared = refl
 
-  part_xform : (v : version.Version) (has shared : Bool) → same_home (links.part v has shared) home.Xform ≡ false
-  part_xform version.Old true true = refl
-  part_xform version.Old true false = refl
-  part_xform version.Old false shared = refl
-  part_xform version.New true true = refl
-  part_xform version.New true false = refl
-  part_xform version.New false shared = refl
-
   abbrev in_version : version.Version → Bytes → Bool
   in_version v x = is_some (global_named (links.program_of W.first W.second v).globals x)
 
@@ -242,16 +184,34 @@ module _ (W : World) where
       ∙ ap₂ option_or (if_none (same_home (cell_part W.first W.second version.Old f) home.Old) (merged_global W origin.Old) (global_named W.first.globals f) h)
       (if_not (same_home (cell_part W.first W.second version.New f) home.Old) _ (part_new_old (in_version version.New f) (is_shared_cell W.first W.second f)))
 
+  pub no_old_at_new : (x : Bytes) → globals_in version.Old origin.Old W.first.globals (home.New, x) ≡ None
+  no_old_at_new x = if_not (same_home (cell_part W.first W.second version.Old x) home.New) _ (part_old_new (in_version version.Old x) (is_shared_cell W.first W.second x))
+
   pub no_new_cell : (f : Bytes) → global_named W.second.globals f ≡ None → global_named (merged_globals W) (code_name (home.New, f)) ≡ None
   no_new_cell f h =
       cells-is (home.New, f)
-      ∙ ap₂ option_or
-      (if_not (same_home (cell_part W.first W.second version.Old f) home.New) _ (part_old_new (in_version version.Old f) (is_shared_cell W.first W.second f)))
+      ∙ ap₂ option_or (no_old_at_new f)
       (if_none (same_home (cell_part W.first W.second version.New f) home.New) (merged_global W origin.New) (global_named own_globals f) (own_unnamed f h))
 
-  pub no_xform_cell : (f : Bytes) → global_named (merged_globals W) (code_name (home.Xform, f)) ≡ None
-  no_xform_cell f =
-      cells-is (home.Xform, f)
+  -- a home that no version's global has
+  abbrev IsElsewhere : Home → Type 0
+  IsElsewhere p = (same_home home.Both p ≡ false) × ((same_home home.Old p ≡ false) × (same_home home.New p ≡ false))
+
+  elsewhere_in : {X Y : Type 0} (p : Home) → IsElsewhere p → (v : version.Version) (shared : Bool) (o : Option X) (make : Y → GlobalVar) (a : Option Y) → (o ≡ None → a ≡ None)
+      → (if same_home (links.part v (is_some o) shared) p then option_map make a else None) ≡ None
+  elsewhere_in p apart version.Old true (Some x) make a h = if_not (same_home home.Both p) (option_map make a) apart.0
+  elsewhere_in p apart version.Old false (Some x) make a h = if_not (same_home home.Old p) (option_map make a) apart.1.0
+  elsewhere_in p apart version.New true (Some x) make a h = if_not (same_home home.Both p) (option_map make a) apart.0
+  elsewhere_in p apart version.New false (Some x) make a h = if_not (same_home home.New p) (option_map make a) apart.1.1
+  elsewhere_in p apart version.Old shared None make a h = if_none (same_home home.Unlinked p) make a (h refl)
+  elsewhere_in p apart version.New shared None make a h = if_none (same_home home.Unlinked p) make a (h refl)
+
+  pub no_cell_elsewhere : (p : Home) (x : Bytes) → IsElsewhere p → global_named (merged_globals W) (cell_name (p, x)) ≡ None
+  no_cell_elsewhere p x apart =
+      cells-is (p, x)
       ∙ ap₂ option_or
-      (if_not (same_home (cell_part W.first W.second version.Old f) home.Xform) _ (part_xform version.Old (in_version version.Old f) (is_shared_cell W.first W.second f)))
-      (if_not (same_home (cell_part W.first W.second version.New f) home.Xform) _ (part_xform version.New (in_version version.New f) (is_shared_cell W.first W.second f)))
+      (elsewhere_in p apart version.Old (is_shared_cell W.first W.second x) (global_named W.first.globals x) (merged_global W origin.Old) (global_named W.first.globals x) (λ h. h))
+      (elsewhere_in p apart version.New (is_shared_cell W.first W.second x) (global_named W.second.globals x) (merged_global W origin.New) (global_named own_globals x) (own_unnamed x))
+
+  pub no_xform_cell : (f : Bytes) → global_named (merged_globals W) (code_name (home.Xform, f)) ≡ None
+  no_xform_cell f = no_cell_elsewhere home.Xform f (refl, (refl, refl))
