@@ -5,6 +5,7 @@ use Rattle.std.specs.Str.{bytes_eq}
 use Rattle.std.proofs.lemmas.Slice.Eq.{bytes_eq-Decides}
 use Rattle.std.proofs.lemmas.List.{take-append-drop}
 use Rattle.c_lang.specs.Names.{Bytes, is_reserved, behind}
+use Rattle.c_types.proofs.Combined.{both_true}
 use Rattle.version_names.specs.Version.{Version}
 use Rattle.version_names.specs.Version as version
 use Rattle.version_names.specs.Home.{Home, Linked, same_home, same_linked}
@@ -23,10 +24,6 @@ by_bool false f g = g refl
 
 pub true_false : true ≡ false → ⊥
 true_false e = absurd cc
-
-pub both_true : (a b : Bool) → a && b ≡ true → (a ≡ true) × (b ≡ true)
-both_true true b e = (refl, e)
-both_true false b e = absurd cc
 
 pub to_false : (b : Bool) → (b ≡ true → ⊥) → b ≡ false
 to_false true h = absurd (h refl)
@@ -108,14 +105,6 @@ kept-kept x y = by_bool (is_foreign x)
     (λ h. by_bool (is_foreign y)
     (λ k. bytes_eq-sym (kept_name x) (kept_name y) ∙ kept-mixed y x k h ∙ bytes_eq-sym y x)
     (λ k. ap₂ bytes_eq (kept-free x h) (kept-free y k)))
-
--- a name that isn't reserved is apart from a kept one where it is apart from the name
-pub free-kept : (n x : Bytes) → is_reserved n ≡ false → bytes_eq n x ≡ false → bytes_eq n (kept_name x) ≡ false
-free-kept n x free apart = by_bool (is_foreign x)
-    (λ h. to_false (bytes_eq n (kept_name x)) (λ e.
-    let same : n ≡ codes "dsu_" ++ x = same_names n (kept_name x) e ∙ kept-foreign x h in
-    true_false (sym (ap is_reserved same) ∙ free)))
-    (λ h. ap (bytes_eq n) (kept-free x h) ∙ apart)
 
 -- ---- linked names
 

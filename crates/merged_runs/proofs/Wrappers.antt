@@ -12,6 +12,7 @@ use Rattle.c_lang.specs.Programs.{func_named, func_in, no_func}
 use Rattle.c_lang.specs.declared.stmt.Kind.{Kind}
 use Rattle.c_lang.specs.declared.program.Func.{Func}
 use Rattle.c_types.specs.Functions.{kinds_of}
+use Rattle.c_types.proofs.Combined.{both_true}
 use Rattle.version_names.specs.Links as links
 use Rattle.version_names.specs.Links.{both_alike, same_head, is_shared_code, code_part}
 use Rattle.version_names.specs.Version.{Version}
@@ -23,7 +24,7 @@ use Rattle.version_names.specs.Provenance as origin
 use Rattle.update_semantics.specs.UpdatingRun.{World, function_meaning}
 use Rattle.merged_program.specs.Names.{parameter_name, code_name, variable_name}
 use Rattle.merged_program.specs.Programs.{parameters_from, wrapper, merged_funcs}
-use Rattle.merged_program.proofs.MergedNames.{to_false, both_true, same_names}
+use Rattle.merged_program.proofs.MergedNames.{to_false, same_names}
 use Rattle.merged_program.proofs.Lookups.{name_of_func, func_named-is, named-name}
 use Rattle.merged_runs.proofs.MergedStatements.{wrapper_body, wrapper-built}
 use Rattle.merged_runs.proofs.FrameLemmas.{IsMerged}

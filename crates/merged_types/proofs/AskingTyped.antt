@@ -17,7 +17,8 @@ use Rattle.version_names.specs.Merged.{merged_name}
 use Rattle.version_names.specs.declared.part.Origin.TheVariants.{Xform}
 use Rattle.merged_program.specs.Names.{now_name, choice_name}
 use Rattle.merged_program.specs.Statements.{is_zero, is_set, swap, question, asking}
-use Rattle.merged_types.proofs.EntryLaws.{one, found_added, absent_from, added_behind}
+use Rattle.merged_program.proofs.AddedNames.{one, found_added}
+use Rattle.merged_types.proofs.EntryLaws.{absent_from, added_behind}
 use Rattle.merged_types.proofs.Carrying.{some_is}
 use Rattle.merged_types.proofs.CarriedScopes.{HasUpdate}
 use Rattle.merged_types.proofs.ResolvedTyping.{IsInt, IsVariable, IsResolved, IsResolvedCall, IsResolvedStatement, AreResolved}

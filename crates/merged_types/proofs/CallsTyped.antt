@@ -23,7 +23,8 @@ use Rattle.merged_program.specs.Names.{now_name, result_name, parameter_name}
 use Rattle.merged_program.specs.Statements.{hand, wrapping, return_zero}
 use Rattle.merged_program.specs.Programs.{parameters_from, wrapper, starting}
 use Rattle.merged_program.proofs.MergedNames.{bytes_eq-refl}
-use Rattle.merged_types.proofs.EntryLaws.{one, found_added, absent_from, added_behind}
+use Rattle.merged_program.proofs.AddedNames.{one, found_added}
+use Rattle.merged_types.proofs.EntryLaws.{absent_from, added_behind}
 use Rattle.merged_types.proofs.ResolvedTyping.{IsVariable, IsResolvedCall, IsResolvedReturn, AreResolvedArguments, AreResolved}
 use Rattle.merged_types.proofs.AskingTyped.{outside_means, set_test}
 use Rattle.merged_types.proofs.ResolvedFuncs.{IsResolvedFunc}

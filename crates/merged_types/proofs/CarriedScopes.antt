@@ -17,7 +17,8 @@ use Rattle.version_names.specs.declared.part.Origin.TheVariants.{Xform}
 use Rattle.merged_program.specs.Names.{now_name, choice_name}
 use Rattle.merged_program.specs.Expressions.{renamed_dest}
 use Rattle.merged_program.proofs.Lookups.{or_none}
-use Rattle.merged_types.proofs.EntryLaws.{one, found_added, renamed_entries, renamed_found, renamed_added, same_position}
+use Rattle.merged_program.proofs.AddedNames.{one, found_added}
+use Rattle.merged_types.proofs.EntryLaws.{renamed_entries, renamed_found, renamed_added, same_position}
 use Rattle.merged_types.proofs.Carrying.{IsKeptCell, IsKeptCode, IsLocal, cell_before, code_before, AreCarried, are_carried}
 
 -- variables' new names are apart from each other and from what a point declares

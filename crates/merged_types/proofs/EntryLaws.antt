@@ -1,7 +1,6 @@
--- Entries with one more name, and entries under other names.
+-- Where names stand in entries, and entries under other names.
 use Rattle.std.proofs.Common.{◌≡◌, ◌+◌, ℕ, suc, nat_lt, eqb, cond, Bool, true, false, not, List, [], ◌∷◌, ◌++◌, map, length, Option, Some, None, is_some, refl, sym, ap, ap₂, ◌∙◌, arith}
 use Rattle.std.specs.Prelude.{if◌then◌else◌, position}
-use Rattle.std.specs.Option.{option_or}
 use Rattle.std.specs.List.{position_or_len}
 use Rattle.std.specs.Map.{keys_of}
 use Rattle.std.specs.Str.{bytes_eq}
@@ -10,32 +9,7 @@ use Rattle.std.proofs.lemmas.List.{map-append, length-map}
 use Rattle.std.proofs.lemmas.List.Folds.{position_or_len_push}
 use Rattle.c_lang.specs.Names.{Bytes}
 use Rattle.c_types.specs.Names.{Means, Entries, found, added, stands_from, stands_before, at_least, less_than}
-use Rattle.merged_program.proofs.MergedNames.{by_bool, same_names, bytes_eq-refl}
-use Rattle.merged_program.proofs.Lookups.{or_none, or_some}
-
--- ---- one name more
-
-abbrev pub one : Bytes → Bytes → Means → Option Means
-one x y m = cond (bytes_eq x y) (Some m) None
-
-found_behind : (es : Entries) (x y : Bytes) (m : Means) → found (es ++ (y, m) ∷ []) x ≡ option_or (found es x) (one x y m)
-found_behind [] x y m = refl
-found_behind (e ∷ es) x y m = by_test (bytes_eq x e.0) (found_behind es x y m)
-  where
-    by_test : (b : Bool) → found (es ++ (y, m) ∷ []) x ≡ option_or (found es x) (one x y m)
-        → cond b (Some e.1) (found (es ++ (y, m) ∷ []) x) ≡ option_or (cond b (Some e.1) (found es x)) (one x y m)
-    by_test true h = refl
-    by_test false h = h
-
-found_there : (es : Entries) (x y : Bytes) (m : Means) → is_some (found es y) ≡ true → found es x ≡ option_or (found es x) (one x y m)
-found_there es x y m h = by_bool (bytes_eq x y)
-    (λ e. sym (or_some (found es x) (one x y m) (ap (λ (z : Bytes). is_some (found es z)) (same_names x y e) ∙ h)))
-    (λ e. sym (ap (λ (b : Bool). option_or (found es x) (cond b (Some m) None)) e ∙ or_none (found es x)))
-
-pub found_added : (es : Entries) (x y : Bytes) (m : Means) → found (added es y m) x ≡ option_or (found es x) (one x y m)
-found_added es x y m = by_bool (is_some (found es y))
-    (λ h. ap (λ (b : Bool). found (if b then es else es ++ (y, m) ∷ []) x) h ∙ found_there es x y m h)
-    (λ h. ap (λ (b : Bool). found (if b then es else es ++ (y, m) ∷ []) x) h ∙ found_behind es x y m)
+use Rattle.merged_program.proofs.MergedNames.{bytes_eq-refl}
 
 -- ---- where a name that isn't there would stand
 

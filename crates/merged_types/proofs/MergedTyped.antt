@@ -1,5 +1,5 @@
 -- A merged program is typed in its plain form, and the resolved form of it.
-use Rattle.std.proofs.Common.{◌≡◌, ◌≤◌, ℕ, Bool, true, false, List, [], ◌∷◌, map, length, Option, Some, None, is_some, unwrap_or, refl, sym, ap, ap₂, ◌∙◌, codes}
+use Rattle.std.proofs.Common.{◌≡◌, ◌≤◌, ℕ, Bool, true, false, List, [], ◌∷◌, map, length, Option, Some, None, is_some, unwrap_or, refl, sym, ap, ap₂, ◌∙◌, codes, subst}
 use Rattle.std.specs.List.{filter}
 use Rattle.std.specs.Str.{bytes_eq}
 use Rattle.c_lang.specs.Limits.{parameter_limit}
@@ -27,15 +27,16 @@ use Rattle.merged_program.specs.Names.{variable_name, function_name}
 use Rattle.merged_program.specs.Programs.{wrapper, starting, merged_globals, merged_main, old_func, new_func, xform_func, is_wrapped, merged_funcs, merged_program}
 use Rattle.merged_program.proofs.Lookups.{no_func_named}
 use Rattle.merged_program.proofs.MergedTables.{no_old_cell, no_new_cell, no_wrapper_cell, no_xform_cell}
+use Rattle.merged_program.proofs.MainLaws.{AreNew, StartsIt, main_starts}
 use Rattle.merged_types.proofs.MergedNaming.{merged_naming}
 use Rattle.merged_types.proofs.CarriedScopes.{IsOutside, HasUpdate}
 use Rattle.merged_types.proofs.ResolvedFuncs.{IsResolvedFunc, version_merged, merged_alone}
-use Rattle.merged_types.proofs.PlainPrograms.{AreNew, Each, IsResolvedProgram, typed_plain, resolved_back}
+use Rattle.merged_types.proofs.PlainPrograms.{Each, IsResolvedProgram, typed_plain, resolved_back}
 use Rattle.merged_types.proofs.VersionNames.{first_outside, second_outside, merged_outside, old_names, new_names, old_code, new_code, kinds_sound, result_sound, nowhere_cell}
 use Rattle.merged_types.proofs.UpdateNames.{has_update, parameter_free, result_free}
 use Rattle.merged_types.proofs.CallsTyped.{starting_resolved, wrapper_typed}
 use Rattle.merged_types.proofs.MergedGlobals.{globals_merged, cells_merged, new_globals_merged}
-use Rattle.merged_types.proofs.NewNames.{IsOwn, IsStartIfMain, no_global, globals_none, funcs_none, each_append, each_map, each_both, each_filter, new_append, new_within, new_made, new_filtered, seen_before, each_own, protos_typed, main_starts, main_behind, main_named, starts, owned, named_main}
+use Rattle.merged_types.proofs.NewNames.{IsOwn, IsStartIfMain, no_global, globals_none, funcs_none, each_append, each_map, each_both, each_filter, new_append, new_within, new_made, new_filtered, seen_before, each_own, protos_typed, each_starts, main_behind, main_named, starts, owned}
 
 -- a transformer whose functions are typed and in resolved form
 pub record IsResolvedTransformer (W : World) : Type 0 where
@@ -79,14 +80,14 @@ module _ (first second xform : Program) (permits : ℕ → Bool) where
         each_map (IsVersionFunc (first_outside W)) IsHere (old_func W)
         (λ f q. version_merged permits (variable_name W) (function_name W) origin.Old (merged_naming W origin.Old) (first_outside W) outside false first_names update f q.0
         (merged_name prefix.Old f.name) (λ m. (starts f q.1 m).0)) first.funcs
-        (each_both (IsResolvedFunc (first_outside W) false) IsStartIfMain first.funcs h.funcs (main_starts (with_globals [] first.globals) first.funcs h.new_funcs h.main))
+        (each_both (IsResolvedFunc (first_outside W) false) IsStartIfMain first.funcs h.funcs (each_starts (with_globals [] first.globals) first.funcs h.new_funcs h.main))
 
     new_funcs : Each IsHere (map (new_func W) second.funcs)
     new_funcs =
         each_map (IsVersionFunc (second_outside W)) IsHere (new_func W)
         (λ f q. version_merged permits (variable_name W) (function_name W) origin.New (merged_naming W origin.New) (second_outside W) outside false second_names update f q.0
         (merged_name prefix.New f.name) (λ m. (starts f q.1 m).0)) second.funcs
-        (each_both (IsResolvedFunc (second_outside W) false) IsStartIfMain second.funcs k.funcs (main_starts (with_globals [] second.globals) second.funcs k.new_funcs k.main))
+        (each_both (IsResolvedFunc (second_outside W) false) IsStartIfMain second.funcs k.funcs (each_starts (with_globals [] second.globals) second.funcs k.new_funcs k.main))
 
     abbrev IsWrapped : Func → Type 0
     IsWrapped d = IsResolvedFunc (first_outside W) false d × IsOwn (with_globals [] first.globals) first.funcs d
@@ -130,7 +131,7 @@ module _ (first second xform : Program) (permits : ℕ → Bool) where
         ∙ ap₂ (λ (ps : List (Kind × Bytes)) (g : Bool). Some (Code (kinds_of ps) g (arity_as_value (kinds_of ps) g) None)) start.1 start.0)
       where
         main_is : (f : Func) → func_named first.funcs main ≡ Some f → (f.gives ≡ true) × (f.params ≡ [])
-        main_is f e = named_main first.funcs f e (main_starts (with_globals [] first.globals) first.funcs h.new_funcs h.main)
+        main_is f e = subst StartsIt e (main_starts (with_globals [] first.globals) first.funcs h.new_funcs h.main)
 
     main_here : IsHere (merged_main W None)
     main_here = main_by (func_named first.funcs main) refl (main_named first.funcs h.main)

@@ -13,29 +13,14 @@ use Rattle.c_types.specs.Names.{Means, Entries, found, added}
 use Rattle.c_types.specs.Functions.{kinds_of, means_of_func, is_main}
 use Rattle.c_types.specs.Programs.{with_global, with_globals, with_func, with_funcs, is_empty, is_start, has_main}
 use Rattle.c_types.specs.Types.{IsMatch, AreNarrow, AreTypedProtos}
-use Rattle.c_types.proofs.Combined.{both_true}
 use Rattle.merged_program.specs.Programs.{declared}
-use Rattle.merged_program.proofs.MergedNames.{by_bool, true_false, same_names, bytes_eq-refl, bytes_eq-sym}
-use Rattle.merged_types.proofs.EntryLaws.{one, found_added}
+use Rattle.merged_program.proofs.MergedNames.{by_bool, same_names, bytes_eq-refl, bytes_eq-sym}
+use Rattle.merged_program.proofs.AddedNames.{found_added, added_none, none_added}
+use Rattle.merged_program.proofs.MainLaws.{AreNew, StartsIt, main_starts}
 use Rattle.merged_types.proofs.UnitNames.{means_of_global, found_globals, found_funcs}
-use Rattle.merged_types.proofs.PlainPrograms.{AreNew, AreNewGlobals, Each}
+use Rattle.merged_types.proofs.PlainPrograms.{AreNewGlobals, Each}
 
 -- ---- what isn't there
-
-or_nothing : {X : Type 0} (o p : Option X) → option_or o p ≡ None → (o ≡ None) × (p ≡ None)
-or_nothing None p h = (refl, h)
-or_nothing (Some x) p h = absurd cc
-
-one_nothing : (b : Bool) (m : Means) → cond b (Some m) None ≡ None → b ≡ false
-one_nothing true m h = absurd cc
-one_nothing false m h = refl
-
-pub added_none : (es : Entries) (y : Bytes) (m : Means) (x : Bytes) → found (added es y m) x ≡ None → (found es x ≡ None) × (bytes_eq x y ≡ false)
-added_none es y m x h =
-    let parts = or_nothing (found es x) (one x y m) (sym (found_added es x y m) ∙ h) in (parts.0, one_nothing (bytes_eq x y) m parts.1)
-
-pub none_added : (es : Entries) (y : Bytes) (m : Means) (x : Bytes) → found es x ≡ None → bytes_eq x y ≡ false → found (added es y m) x ≡ None
-none_added es y m x h k = found_added es x y m ∙ ap₂ (λ (o : Option Means) (b : Bool). option_or o (cond b (Some m) None)) h k
 
 mapped_nothing : {X Y : Type 0} (make : X → Y) (o : Option X) → option_map make o ≡ None → o ≡ None
 mapped_nothing make None h = refl
@@ -59,6 +44,10 @@ each_append P (x ∷ xs) ys h k = (h.0, each_append P xs ys h.1 k)
 pub each_map : {X Y : Type 0} (P : X → Type 0) (Q : Y → Type 0) (make : X → Y) → ((x : X) → P x → Q (make x)) → (xs : List X) → Each P xs → Each Q (map make xs)
 each_map P Q make f [] h = tt
 each_map P Q make f (x ∷ xs) h = (f x h.0, each_map P Q make f xs h.1)
+
+each_from : {X : Type 0} (P Q : X → Type 0) → ((x : X) → P x → Q x) → (xs : List X) → Each P xs → Each Q xs
+each_from P Q f [] h = tt
+each_from P Q f (x ∷ xs) h = (f x h.0, each_from P Q f xs h.1)
 
 pub each_both : {X : Type 0} (P Q : X → Type 0) (xs : List X) → Each P xs → Each Q xs → Each (λ x. P x × Q x) xs
 each_both P Q [] h k = tt
@@ -197,10 +186,12 @@ each_own seen (f ∷ fs) h = (
         let parts = added_none seen f.name (means_of_func f) g.name k.0.0 in
         ((parts.0, ap (λ (b : Bool). if b then Some f else func_named fs g.name) (bytes_eq-sym f.name g.name ∙ parts.1) ∙ k.0.1), behind gs k.1)
 
--- ---- prototypes
+-- what the opaque fact says
+pub owned : (seen : Entries) (fs : List Func) (f : Func) → IsOwn seen fs f → (found seen f.name ≡ None) × (func_named fs f.name ≡ Some f)
+unfolding IsOwn
+owned seen fs f h = h
 
-pub IsSeenIn : Entries → Func → Type 0
-IsSeenIn whole f = found whole f.name ≡ Some (means_of_func f)
+-- ---- prototypes
 
 kept_seen : (seen : Entries) (fs : List Func) (x : Bytes) (m : Means) → found seen x ≡ Some m → found (with_funcs seen fs) x ≡ Some m
 kept_seen seen fs x m h = found_funcs seen fs x ∙ ap (λ (o : Option Means). option_or o (option_map means_of_func (func_named fs x))) h
@@ -222,21 +213,6 @@ protos_typed whole seen (f ∷ fs) look h k =
 
 -- ---- the one `main`
 
-pub no_other_main : (seen : Entries) (fs : List Func) → (found seen (codes "main") ≡ None → ⊥) → AreNew seen fs → Each (λ (f : Func). is_main f.name ≡ false) fs
-no_other_main seen [] s h = tt
-no_other_main seen (f ∷ fs) s h = (
-  by_bool (is_main f.name) (λ e. absurd (s (subst (λ (x : Bytes). found seen x ≡ None) (same_names f.name (codes "main") e) h.0))) (λ e. e),
-  no_other_main (with_func seen f) fs (λ e. s (added_none seen f.name (means_of_func f) (codes "main") e).0) h.1,
-)
-
-not_started : (fs : List Func) → Each (λ (f : Func). is_main f.name ≡ false) fs → has_main fs ≡ false
-not_started [] h = refl
-not_started (f ∷ fs) h = ap₂ (λ (a b : Bool). (a && f.gives && is_empty f.params) || b) h.0 (not_started fs h.1)
-
-or_left : (a b : Bool) → (a || b) ≡ true → b ≡ false → a ≡ true
-or_left true b h k = refl
-or_left false b h k = let never : false ≡ true = sym k ∙ h in absurd cc
-
 or_right : (a b : Bool) → (a || b) ≡ true → a ≡ false → b ≡ true
 or_right true b h k = absurd cc
 or_right false b h k = h
@@ -244,33 +220,15 @@ or_right false b h k = h
 pub IsStartIfMain : Func → Type 0
 IsStartIfMain f = is_main f.name ≡ true → (f.gives ≡ true) × (f.params ≡ [])
 
-pub empty_is : {X : Type 0} (xs : List X) → is_empty xs ≡ true → xs ≡ []
-empty_is [] h = refl
-empty_is (x ∷ xs) h = absurd cc
-
-started : (f : Func) → is_start f ≡ true → (f.gives ≡ true) × (f.params ≡ [])
-started f h =
-    let parts = both_true (is_main f.name && f.gives) (is_empty f.params) h in
-    ((both_true (is_main f.name) f.gives parts.0).1, empty_is f.params parts.1)
+-- by what its own name has
+own_starts : (fs : List Func) (f : Func) → func_named fs f.name ≡ Some f → StartsIt (func_named fs (codes "main")) → IsStartIfMain f
+unfolding IsStartIfMain
+own_starts fs f e s m = subst StartsIt (ap (func_named fs) (sym (same_names f.name (codes "main") m)) ∙ e) s
 
 -- of a program that can be started, each `main` gives a value and has no parameters
-pub main_starts : (seen : Entries) (fs : List Func) → AreNew seen fs → has_main fs ≡ true → Each IsStartIfMain fs
-unfolding IsStartIfMain
-main_starts seen [] h s = absurd cc
-main_starts seen (f ∷ fs) h s = by_bool (is_main f.name)
-    (λ e.
-    let others = no_other_main (with_func seen f) fs
-    (λ k. let parts = added_none seen f.name (means_of_func f) (codes "main") k in
-    true_false (sym (bytes_eq-sym (codes "main") f.name ∙ e) ∙ parts.1)) h.1 in
-    (λ _. started f (or_left (is_start f) (has_main fs) s (not_started fs others)), vacuous fs others))
-    (λ e. (
-      λ k. absurd (true_false (sym k ∙ e)),
-      main_starts (with_func seen f) fs h.1 (or_right (is_start f) (has_main fs) s (ap (λ (a : Bool). a && f.gives && is_empty f.params) e)),
-    ))
-  where
-    vacuous : (gs : List Func) → Each (λ (g : Func). is_main g.name ≡ false) gs → Each IsStartIfMain gs
-    vacuous [] k = tt
-    vacuous (g ∷ gs) k = (λ m. absurd (true_false (sym m ∙ k.0)), vacuous gs k.1)
+pub each_starts : (seen : Entries) (fs : List Func) → AreNew seen fs → has_main fs ≡ true → Each IsStartIfMain fs
+each_starts seen fs h s =
+    each_from (IsOwn seen fs) IsStartIfMain (λ f own. own_starts fs f (owned seen fs f own).1 (main_starts seen fs h s)) fs (each_own seen fs h)
 
 pub main_behind : (fs gs : List Func) → has_main gs ≡ true → has_main (fs ++ gs) ≡ true
 main_behind [] gs h = h
@@ -288,24 +246,10 @@ main_named (f ∷ fs) h = by_bool (bytes_eq f.name (codes "main"))
     (λ e. ap (λ (b : Bool). is_some (if b then Some f else func_named fs (codes "main"))) e
     ∙ main_named fs (or_right (is_start f) (has_main fs) h (ap (λ (a : Bool). a && f.gives && is_empty f.params) e)))
 
--- what the two opaque facts say
+-- what the opaque fact says
 pub starts : (f : Func) → IsStartIfMain f → is_main f.name ≡ true → (f.gives ≡ true) × (f.params ≡ [])
 unfolding IsStartIfMain
 starts f h = h
-
-pub owned : (seen : Entries) (fs : List Func) (f : Func) → IsOwn seen fs f → (found seen f.name ≡ None) × (func_named fs f.name ≡ Some f)
-unfolding IsOwn
-owned seen fs f h = h
-
-some_is_same : (f g : Func) → Some f ≡ Some g → f ≡ g
-some_is_same f g e = cc
-
-pub named_main : (fs : List Func) (f : Func) → func_named fs (codes "main") ≡ Some f → Each IsStartIfMain fs → (f.gives ≡ true) × (f.params ≡ [])
-named_main [] f e h = absurd cc
-named_main (g ∷ gs) f e h = by_bool (is_main g.name)
-    (λ m. let same : g ≡ f = some_is_same g f (sym (ap (λ (b : Bool). if b then Some g else func_named gs (codes "main")) m) ∙ e) in
-    subst (λ (d : Func). (d.gives ≡ true) × (d.params ≡ [])) same (starts g h.0 m))
-    (λ m. named_main gs f (sym (ap (λ (b : Bool). if b then Some g else func_named gs (codes "main")) m) ∙ e) h.1)
 
 -- ---- globals by their names
 

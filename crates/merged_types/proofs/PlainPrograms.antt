@@ -11,15 +11,12 @@ use Rattle.c_types.specs.Names.{Entries, found}
 use Rattle.c_types.specs.Programs.{with_global, with_globals, with_func, with_funcs, outside_of, cells_of, is_start, has_main, resolved_funcs, resolved_program}
 use Rattle.c_types.specs.Types.{IsInitial, IsHeld, AreTypedGlobals, AreTypedProtos, AreTypedFuncs, Types}
 use Rattle.c_types.specs.Plain.{plain_func, built_func, plain}
+use Rattle.merged_program.proofs.MainLaws.{AreNew}
 use Rattle.merged_types.proofs.ResolvedFuncs.{IsResolvedFunc, plain_typed, plain_back}
 
 -- ---- lists of declarations
 
--- no function has a name that is seen before
-abbrev pub AreNew : Entries → List Func → Type 0
-AreNew seen [] = ⊤
-AreNew seen (f ∷ fs) = (found seen f.name ≡ None) × AreNew (with_func seen f) fs
-
+-- no global has a name that is seen before
 abbrev pub AreNewGlobals : Entries → List GlobalVar → Type 0
 AreNewGlobals seen [] = ⊤
 AreNewGlobals seen (g ∷ gs) = (found seen g.name ≡ None) × AreNewGlobals (with_global seen g) gs

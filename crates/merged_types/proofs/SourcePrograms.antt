@@ -1,20 +1,16 @@
 -- The resolved form of a typed program has functions that are typed and in resolved form.
-use Rattle.std.proofs.Common.{◌≡◌, ◌≤◌, ℕ, Bool, true, false, ◌||◌, if◌then◌else◌, List, [], ◌∷◌, Some, refl, sym, ap, ◌∙◌, subst, arith}
-use Rattle.std.specs.Option.{option_map}
-use Rattle.std.specs.Str.{bytes_eq}
+use Rattle.std.proofs.Common.{◌≡◌, ◌≤◌, ℕ, Bool, false, List, [], ◌∷◌, refl, sym, ◌∙◌, subst, arith}
 use Rattle.c_lang.specs.Limits.{cell_limit}
-use Rattle.c_lang.specs.Names.{Bytes}
-use Rattle.c_lang.specs.Programs.{func_named}
 use Rattle.c_lang.specs.declared.unit.Unit.{Unit}
 use Rattle.c_lang.specs.declared.program.GlobalVar.{GlobalVar}
 use Rattle.c_lang.specs.declared.program.Func.{Func}
 use Rattle.c_lang.specs.declared.program.Program.{Program}
 use Rattle.c_types.specs.Names.{Entries}
-use Rattle.c_types.specs.Functions.{resolved_func}
-use Rattle.c_types.specs.Programs.{with_global, with_globals, with_func, with_funcs, outside_of, cells_of, is_start, has_main, resolved_funcs, resolved_program}
+use Rattle.c_types.specs.Programs.{with_global, with_globals, with_func, with_funcs, outside_of, cells_of, resolved_funcs, resolved_program}
 use Rattle.c_types.specs.Types.{IsInitial, IsHeld, AreTypedGlobals, AreTypedProtos, AreTypedFuncs, Types}
+use Rattle.merged_program.proofs.MainLaws.{new_funcs, same_start}
 use Rattle.merged_types.proofs.ResolvedFuncs.{IsResolvedFunc, source_resolved}
-use Rattle.merged_types.proofs.PlainPrograms.{AreNew, AreNewGlobals, Each, all_cells, IsResolvedProgram}
+use Rattle.merged_types.proofs.PlainPrograms.{AreNewGlobals, Each, all_cells, IsResolvedProgram}
 
 -- ---- globals
 
@@ -39,28 +35,9 @@ pub same_heads : (outside : Entries) (xform : Bool) (es : Entries) (fs : List Fu
 same_heads outside xform es [] = refl
 same_heads outside xform es (f ∷ fs) = same_heads outside xform (with_func es f) fs
 
-new_funcs : (outside seen : Entries) (fs : List Func) → AreTypedFuncs outside false seen fs → AreNew seen (resolved_funcs outside false fs)
-new_funcs outside seen [] h = tt
-new_funcs outside seen (f ∷ fs) h = (h.0, new_funcs outside (with_func seen f) fs h.2)
-
 each_func : (outside seen : Entries) (fs : List Func) → AreTypedFuncs outside false seen fs → Each (IsResolvedFunc outside false) (resolved_funcs outside false fs)
 each_func outside seen [] h = tt
 each_func outside seen (f ∷ fs) h = (source_resolved outside false f h.1, each_func outside (with_func seen f) fs h.2)
-
-same_start : (outside : Entries) (xform : Bool) (fs : List Func) → has_main (resolved_funcs outside xform fs) ≡ has_main fs
-same_start outside xform [] = refl
-same_start outside xform (f ∷ fs) = ap (λ (b : Bool). is_start f || b) (same_start outside xform fs)
-
-pub resolved_named : (outside : Entries) (xform : Bool) (fs : List Func) (n : Bytes)
-    → func_named (resolved_funcs outside xform fs) n ≡ option_map (resolved_func outside xform) (func_named fs n)
-resolved_named outside xform [] n = refl
-resolved_named outside xform (f ∷ fs) n = by_test (bytes_eq f.name n) (resolved_named outside xform fs n)
-  where
-    by_test : (b : Bool) → func_named (resolved_funcs outside xform fs) n ≡ option_map (resolved_func outside xform) (func_named fs n)
-        → (if b then Some (resolved_func outside xform f) else func_named (resolved_funcs outside xform fs) n)
-        ≡ option_map (resolved_func outside xform) (if b then Some f else func_named fs n)
-    by_test true e = refl
-    by_test false e = e
 
 -- ---- programs
 

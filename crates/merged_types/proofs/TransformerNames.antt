@@ -1,12 +1,10 @@
 -- What a transformer's names stand for in its merged code.
-use Rattle.std.proofs.Common.{◌≡◌, Bool, true, false, ◌&&◌, if◌then◌else◌, List, [], ◌∷◌, Option, Some, None, is_some, refl, sym, ap, ap₂, ◌∙◌, subst, codes}
+use Rattle.std.proofs.Common.{◌≡◌, Bool, true, false, if◌then◌else◌, List, [], ◌∷◌, Option, Some, None, is_some, refl, sym, ap, ap₂, ◌∙◌, subst, codes}
 use Rattle.std.specs.Option.{option_map}
 use Rattle.std.specs.Str.{bytes_eq}
 use Rattle.c_lang.specs.Names.{Bytes}
-use Rattle.c_lang.specs.Kinds.{same_kinds, same_result}
 use Rattle.c_lang.specs.Refusals as refused
 use Rattle.c_lang.specs.Programs.{global_named, func_named}
-use Rattle.c_lang.specs.declared.stmt.Kind.{Kind}
 use Rattle.c_lang.specs.declared.unit.Unit.TheVariants as unit
 use Rattle.c_lang.specs.declared.program.GlobalVar.{GlobalVar}
 use Rattle.c_lang.specs.declared.program.Func.{Func}
@@ -38,15 +36,15 @@ use Rattle.merged_program.specs.Programs.{xform_func}
 use Rattle.merged_program.proofs.MergedNames.{by_bool, true_false, same_names, bytes_eq-refl}
 use Rattle.merged_program.proofs.Lookups.{or_none}
 use Rattle.merged_program.proofs.MergedTables.{no_xform_cell}
+use Rattle.merged_program.proofs.MainLaws.{AreNew, main_starts, starts_alike, resolved_named}
 use Rattle.merged_types.proofs.MergedNaming.{merged_naming}
 use Rattle.merged_types.proofs.Carrying.{IsKeptCell, IsKeptCode}
 use Rattle.merged_types.proofs.CarriedScopes.{IsOutside}
 use Rattle.merged_types.proofs.UnitNames.{means_of_global}
 use Rattle.merged_types.proofs.LinkedNames.{linked_both, linked_old, linked_new, linked_nowhere}
 use Rattle.merged_types.proofs.VersionNames.{merged_outside, kept_some, shape_no_code, kept_func, same_means, kinds_merged, old_cell, shared_cell, new_alone, nowhere, code_found, old_code, new_code, wrapper_code, shared_code}
-use Rattle.merged_types.proofs.PlainPrograms.{AreNew, Each, IsResolvedProgram}
-use Rattle.merged_types.proofs.NewNames.{IsOwn, IsOwnGlobal, no_global, each_own, each_own_global, owned, owned_global, main_named, main_starts, named_main}
-use Rattle.merged_types.proofs.SourcePrograms.{resolved_named}
+use Rattle.merged_types.proofs.PlainPrograms.{Each, IsResolvedProgram}
+use Rattle.merged_types.proofs.NewNames.{IsOwn, IsOwnGlobal, no_global, each_own, each_own_global, owned, owned_global, main_named}
 use Rattle.merged_types.proofs.VisibleNames.{IsNot, cells_nothing, codes_nothing, IsKeptEntry, AllKept, IsKeptPart, kept_own, kept_cells, kept_codes}
 
 -- ---- parts
@@ -102,10 +100,6 @@ old_names_version x = refl
 new_names_version : (x : Bytes) → names_version (merged_name prefix.New x) ≡ true
 unfolding names_version
 new_names_version x = refl
-
-alike : (ps qs : List (Kind × Bytes)) (a b : Bool) → ps ≡ [] → qs ≡ [] → a ≡ true → b ≡ true → same_kinds (kinds_of ps) (kinds_of qs) && same_result a b ≡ true
-alike ps qs a b hp hq ha hb =
-    ap₂ (λ (xs ys : List (Kind × Bytes)). same_kinds (kinds_of xs) (kinds_of ys) && same_result a b) hp hq ∙ ap₂ same_result ha hb
 
 -- what a transformer knows of its versions
 pub record SeesVersions (W : World) (p : Program) : Type 0 where
@@ -313,16 +307,11 @@ module _ (W : World) (p : Program) (h : SeesVersions W p) where
   abbrev main : Bytes
   main = codes "main"
 
-  main_by : (a b : Option Func) → func_named W.first.funcs main ≡ a → func_named W.second.funcs main ≡ b → is_some a ≡ true → is_some b ≡ true → both_alike same_head a b ≡ true
-  main_by None b ea eb s t = absurd cc
-  main_by (Some f) None ea eb s t = absurd cc
-  main_by (Some f) (Some g) ea eb s t =
-      let x = named_main W.first.funcs f ea (main_starts (with_globals [] W.first.globals) W.first.funcs h.first.new_funcs h.first.main) in
-      let y = named_main W.second.funcs g eb (main_starts (with_globals [] W.second.globals) W.second.funcs h.second.new_funcs h.second.main) in
-      alike f.params g.params f.gives g.gives x.1 y.1 x.0 y.0
-
   pub main_shared : is_shared_code W.first W.second main ≡ true
-  main_shared = main_by (func_named W.first.funcs main) (func_named W.second.funcs main) refl refl (main_named W.first.funcs h.first.main) (main_named W.second.funcs h.second.main)
+  main_shared =
+      starts_alike (func_named W.first.funcs main) (func_named W.second.funcs main)
+      (main_starts (with_globals [] W.first.globals) W.first.funcs h.first.new_funcs h.first.main)
+      (main_starts (with_globals [] W.second.globals) W.second.funcs h.second.new_funcs h.second.main)
 
   module _ (x : Bytes) (none : found seen x ≡ None) where
     apart_new_code : (found with_new_cells x ≡ None) × ((y : Bytes) → is_some (func_named W.second.funcs y) ≡ true → IsNot (parts v.New sort.Code y) x y)

@@ -11,7 +11,7 @@ use Rattle.c_types.specs.Functions.{means_of_func}
 use Rattle.c_types.specs.Programs.{means_of_shape, with_global, with_globals, with_func, with_funcs, outside_of}
 use Rattle.merged_program.proofs.MergedNames.{bytes_eq-sym}
 use Rattle.merged_program.proofs.Lookups.{or_none}
-use Rattle.merged_types.proofs.EntryLaws.{found_added}
+use Rattle.merged_program.proofs.AddedNames.{found_added}
 
 abbrev pub means_of_global : GlobalVar → Means
 means_of_global g = means_of_shape g.shape

@@ -28,9 +28,9 @@ use Rattle.state_xform.specs.Transformers.{is_start}
 use Rattle.merged_program.proofs.MergedNames.{to_false, same_names, kept-own}
 use Rattle.merged_program.proofs.Lookups.{or_none, no_func_named, funcs_append}
 use Rattle.merged_program.proofs.MergedTables.{no_cell, no_xform_cell}
+use Rattle.merged_program.proofs.MainLaws.{empty_is}
 use Rattle.merged_types.proofs.UnitNames.{either_means, found_outside}
 use Rattle.merged_types.proofs.CarriedScopes.{HasUpdate}
-use Rattle.merged_types.proofs.NewNames.{empty_is}
 use Rattle.merged_types.proofs.VersionNames.{merged_outside, code_found}
 
 -- ---- parameters' names

@@ -19,10 +19,9 @@ use Rattle.version_names.specs.declared.part.Part.TheVariants.{Both, Old, New}
 use Rattle.version_names.specs.declared.part.Sort2.TheVariants as sort
 use Rattle.state_xform.specs.Visible.{Parts, own_func, with_own_funcs, version_func, with_prefixed, with_part, with_cells, with_codes}
 use Rattle.merged_program.proofs.MergedNames.{by_bool, same_names}
-use Rattle.merged_types.proofs.EntryLaws.{one, found_added}
+use Rattle.merged_program.proofs.AddedNames.{one, found_added, added_none}
 use Rattle.merged_types.proofs.Carrying.{IsKeptCell, IsKeptCode}
 use Rattle.merged_types.proofs.PlainPrograms.{Each}
-use Rattle.merged_types.proofs.NewNames.{added_none}
 
 -- ---- names that nothing is found for
 

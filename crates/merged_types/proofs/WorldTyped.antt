@@ -35,10 +35,11 @@ use Rattle.written_laws.specs.SourceNames.{IsWord, ShapeHasNames, NamesAreWords}
 use Rattle.written_laws.proofs.WrittenLaws.{words}
 use Rattle.merged_program.specs.Programs.{merged_program}
 use Rattle.merged_program.proofs.MergedNames.{by_bool, true_false, same_names, behind_prefix}
+use Rattle.merged_program.proofs.MainLaws.{AreNew, resolved_named}
 use Rattle.merged_types.proofs.ResolvedFuncs.{IsResolvedFunc, source_resolved}
-use Rattle.merged_types.proofs.PlainPrograms.{AreNew, Each, IsResolvedProgram}
+use Rattle.merged_types.proofs.PlainPrograms.{Each, IsResolvedProgram}
 use Rattle.merged_types.proofs.NewNames.{main_named}
-use Rattle.merged_types.proofs.SourcePrograms.{source_program, resolved_named}
+use Rattle.merged_types.proofs.SourcePrograms.{source_program}
 use Rattle.merged_types.proofs.TransformerNames.{SeesVersions, own_new, main_shared, transformer_names}
 use Rattle.merged_types.proofs.MergedTyped.{W, IsResolvedTransformer, merged_is_typed, merged_is_resolved}
 
