@@ -2,6 +2,22 @@
 import os, pathlib, shutil, subprocess, sys
 
 ROOT = pathlib.Path(__file__).resolve().parent.parent
+PROGRAM = ROOT / "crates/dsu/out/dsu"
+
+# A loop over two names that doesn't end.
+LOOP = b"""int n = 0;
+int main(void) {
+int i = 0;
+while (1) {
+i = (i + 1) % 1000;
+if (i % 3 == 0) {
+n = n + i % 7;
+} else {
+n = n - 1;
+}
+}
+}
+"""
 
 
 def function(i):
@@ -62,3 +78,24 @@ def measure(program, path, runs=9):
         times.append(used.ru_utime + used.ru_stime)
         memory = max(memory, used.ru_maxrss * 1024)
     return count, min(times), memory
+
+
+def measure_steps(words, steps, runs=3):
+    """The quickest of some runs of the built program with these words and so many steps, in seconds of processor time, and
+    the largest run's memory in bytes."""
+    times, memory = [], 0
+    for _ in range(runs):
+        run = subprocess.Popen([PROGRAM, *words, f"--steps={steps}"], stdout=subprocess.DEVNULL)
+        _, status, used = os.wait4(run.pid, 0)
+        if status:
+            sys.exit(f"dsu ended with {os.waitstatus_to_exitcode(status)}")
+        times.append(used.ru_utime + used.ru_stime)
+        memory = max(memory, used.ru_maxrss * 1024)
+    return min(times), memory
+
+
+def speed(words, few, many):
+    """Steps a second, and the memory after few and after many steps."""
+    short, before = measure_steps(words, few)
+    long, after = measure_steps(words, many)
+    return (many - few) / (long - short), before, after

@@ -5,13 +5,12 @@ Build the program first, by `rt run` in crates/dsu. Then run this script at the 
 
 Both versions have the size that is printed. In the first kind a function of ten lines and a global stand in every 440 bytes, laid out as
 people do. In the second kind three declarations stand in every 150 bytes: a global, a function that is shared and one
-that changed. The quickest of three runs counts. This script ends with status 1 where a doubling of the size takes more than 2.3
+that changed. The quickest of nine runs counts. This script ends with status 1 where a doubling of the size takes more than 2.3
 times as long, where a byte of written text takes more than 60 bytes of memory beyond what a merge of small versions
-takes, or where of the first kind less than 5 MB of source are merged a second.
+takes, or where less than 5 MB of source are merged a second.
 """
 import os, pathlib, subprocess, sys, tempfile
-
-PROGRAM = pathlib.Path("crates/dsu/out/dsu").resolve()
+from measuring import PROGRAM
 
 
 def laid_out(number, step, _):
@@ -52,9 +51,9 @@ def version(piece, size, step, params):
 
 
 def measure(folder):
-    """The quickest of three runs in seconds, the largest run's memory in bytes, and the size of the text."""
+    """The quickest of nine runs in seconds, the largest run's memory in bytes, and the size of the text."""
     times, memory, output = [], 0, folder / "merged.c"
-    for _ in range(3):
+    for _ in range(9):
         with open(output, "wb") as sink:
             run = subprocess.Popen([PROGRAM, "merge", "old.c", "new.c", "xform.c"], cwd=folder, stdout=sink)
             _, status, used = os.wait4(run.pid, 0)
@@ -65,7 +64,7 @@ def measure(folder):
     return min(times), memory, output.stat().st_size
 
 
-def measure_kind(folder, piece, least_speed):
+def measure_kind(folder, piece):
     """Prints the figures of a kind of versions, and says whether they are within the bounds."""
     rows = []
     for size in [1, 64, 128, 256]:
@@ -78,7 +77,7 @@ def measure_kind(folder, piece, least_speed):
     for size, read, seconds, memory, written in rows[1:]:
         each = (memory - least) / written
         print(f"{size:12}   {seconds:7.3f}   {read / seconds / 1e6:16.1f}   {memory / 1e6:12.1f}   {written / 1e3:10.0f}   {each:30.1f}")
-        good = good and read / seconds >= least_speed and each <= 60
+        good = good and read / seconds >= 5e6 and each <= 60
     return good and all(after <= 2.3 * before for (_, _, before, _, _), (_, _, after, _, _) in zip(rows[1:], rows[2:]))
 
 
@@ -87,7 +86,7 @@ def main():
         folder = pathlib.Path(name)
         (folder / "xform.c").write_text("void dsu_transform(void) { }\n")
         print("KB a version   seconds   MB read a second   MB of memory   KB written   bytes of memory a byte written")
-        good = [measure_kind(folder, laid_out, 5e6), measure_kind(folder, dense, 0)]
+        good = [measure_kind(folder, kind) for kind in (laid_out, dense)]
     sys.exit(0 if all(good) else 1)
 
 

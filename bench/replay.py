@@ -5,27 +5,12 @@ Build the program first, by `rt run` in crates/dsu. Then run this script at the 
 
 The same loop is run as a merged text and replayed as the old version of a world, three times with 100,000 and with
 10,000,000 steps, and the difference of the quickest runs' processor times counts. The worlds have versions of 64, 128
-and 256 KB and make one step. This script ends with status 1 where a replay makes fewer than half as many steps a second
+and 256 KB and make one step, the quickest of nine runs counting. This script ends with status 1 where a replay makes fewer than half as many steps a second
 as a run, where its long run takes more than 1 MB more memory than its short one, or where a doubling of the size
 takes more than 2.3 times as long.
 """
-import os, pathlib, subprocess, sys, tempfile
-
-PROGRAM = pathlib.Path("crates/dsu/out/dsu").resolve()
-
-LOOP = b"""int n = 0;
-int main(void) {
-int i = 0;
-while (1) {
-i = (i + 1) % 1000;
-if (i % 3 == 0) {
-n = n + i % 7;
-} else {
-n = n - 1;
-}
-}
-}
-"""
+import pathlib, sys, tempfile
+from measuring import LOOP, measure_steps, speed
 
 MAIN = b"int main(void) { return 0; }\n"
 NOTHING = b"void dsu_transform(void) { }\n"
@@ -38,26 +23,6 @@ def version(size, step):
         text.append(b"int g%d = %d;\nint f%d(int x) {\nif (x < g%d) {\nreturn x + %d;\n}\nreturn g%d;\n}\n" % (number, number, number, number, step, number))
         number += 1
     return b"".join(text) + MAIN
-
-
-def measure(words, steps):
-    """The quickest of three runs in seconds of processor time, and the largest run's memory in bytes."""
-    times, memory = [], 0
-    for _ in range(3):
-        run = subprocess.Popen([PROGRAM, *words, f"--steps={steps}"], stdout=subprocess.DEVNULL)
-        _, status, used = os.wait4(run.pid, 0)
-        if status:
-            sys.exit(f"dsu ended with {os.waitstatus_to_exitcode(status)}")
-        times.append(used.ru_utime + used.ru_stime)
-        memory = max(memory, used.ru_maxrss * 1024)
-    return min(times), memory
-
-
-def speed(words, few, many):
-    """Steps a second, and the memory after few and after many steps."""
-    short, before = measure(words, few)
-    long, after = measure(words, many)
-    return (many - few) / (long - short), before, after
 
 
 def main():
@@ -76,7 +41,7 @@ def main():
         for size in [64_000, 128_000, 256_000]:
             old.write_bytes(version(size, 1))
             new.write_bytes(version(size, 2))
-            seconds, memory = measure(["replay", old, new, xform], 1)
+            seconds, memory = measure_steps(["replay", old, new, xform], 1, runs=9)
             times.append(seconds)
             print(f"versions of {size // 1000} KB: {seconds:.2f} s and {memory / 1e6:.0f} MB until the first step")
         good = good and all(later <= 2.3 * earlier for earlier, later in zip(times, times[1:]))
