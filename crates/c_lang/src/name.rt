@@ -4,23 +4,21 @@ ghost use Rattle.std.proofs.Common.{rules};
 ghost use Rattle.std.specs.Hash as fed;
 ghost use Rattle.std.specs.Cmp.Rules.{comparing, hashing};
 
-use sqlite_items::Items;
+use smallvec::SmallVec;
 use std::alloc::{AllocError, Global};
 use std::hash::{Hash, Hasher};
 use std::marker::Model;
 
-/// An identifier, which contracts see as the list of its bytes.
+/// An identifier, which contracts see as the list of its bytes. Short ones take no memory of their own.
 #[derive(Debug, Drop)]
 pub struct Name {
-    bytes: Items<u8>,
+    bytes: SmallVec<u8, 24>,
 }
 
 impl Model for Name {
     ghost Value = { List ℕ };
 
-    ghost view = { λ n. n.bytes };
-
-    ghost inverse = { λ n. record { bytes = n } };
+    ghost view = { λ n. n.bytes.items };
 }
 
 impl PartialEq for Name {
@@ -53,7 +51,7 @@ impl Name {
         ensures { IfOk result (λ name. name ≡ bytes.now) }
     {
         Ok(Name {
-            bytes: Items::from_slice(alloc, bytes)?,
+            bytes: SmallVec::from_slice(alloc, bytes)?,
         })
     }
 
@@ -62,7 +60,7 @@ impl Name {
         ensures { result ≡ bytes.items }
     {
         Name {
-            bytes: Items::from_vec(bytes),
+            bytes: SmallVec::from_vec(bytes),
         }
     }
 

@@ -12,7 +12,8 @@ use Rattle.c_types.proofs.PlainLaws.{plain_resolved_program}
 use Rattle.merge_printer.specs.Heights.{expression_height, arguments_height, statement_height, statements_height, funcs_height}
 use Rattle.c_types.specs.Plain.{built_func}
 use Rattle.merge_printer.proofs.DeclarationLaw.{body_of}
-use Rattle.merge_printer.proofs.PlainLaw.{same_binds, statements_back}
+use Rattle.c_lang.proofs.TreeLemmas.{statements_back}
+use Rattle.merge_printer.proofs.PlainLaw.{same_binds}
 
 same_height : (e : Expression) → expression_height (plain_expression e) ≡ expression_height e
 same_height (literal z) = refl

@@ -31,7 +31,7 @@ use Rattle.merged_program.specs.Programs.{parameters_from, wrapper, starting, de
 use Rattle.merge_printer.proofs.DeclarationLaw.{ProtoFits, FuncReads, start_scope}
 use Rattle.merge_printer.proofs.Fitting.{StatementsFit, StatementFits, KeepsAll, Keeps, scope_behind}
 use Rattle.merge_printer.proofs.HeadLaw.{ParamsFit, KindsFit}
-use Rattle.merge_printer.proofs.PlainLaw.{statement_back, statements_back}
+use Rattle.c_lang.proofs.TreeLemmas.{statement_back, statements_back}
 use Rattle.merge_printer.proofs.ReadScopes.{declared_before, declared_now}
 use Rattle.merge_printer.proofs.SideLaw.{ExpressionsFit}
 use Rattle.merge_printer.proofs.Words.{IsName}

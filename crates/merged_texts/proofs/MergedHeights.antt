@@ -24,7 +24,7 @@ use Rattle.merged_program.specs.Statements.{asking, hand, wrapping, return_zero,
 use Rattle.merged_program.specs.Programs.{parameters_from, wrapper, starting, ending, merged_body, merged_func, old_func, new_func, xform_func, client_func, is_wrapped, merged_main, merged_funcs, merged_program}
 use Rattle.merge_printer.specs.Expressions.{binds}
 use Rattle.merge_printer.specs.Heights.{expression_height, arguments_height, statement_height, statements_height, funcs_height}
-use Rattle.merge_printer.proofs.PlainLaw.{statement_back, statements_back}
+use Rattle.c_lang.proofs.TreeLemmas.{statement_back, statements_back}
 use Rattle.merge_printer.proofs.HeightLaw.{same_funcs}
 use Rattle.merged_texts.proofs.StatementHeights.{body_height, both_heights}
 use Rattle.merged_texts.proofs.WrittenHeights.{both_funcs, one_func}

@@ -27,7 +27,7 @@ use Rattle.update_semantics.specs.UpdatingRun.{World, Specification, client_func
 use Rattle.merged_program.specs.Names.{variable_name, function_name}
 use Rattle.merged_program.specs.Statements.{asking, hand, wrapping, return_zero, merged_statement, merged_statements}
 use Rattle.merged_program.specs.Programs.{parameters_from, wrapper, starting, declared, flag, ending, merged_global, is_own_cell, merged_body, merged_func, old_func, new_func, xform_func, client_func, is_wrapped, merged_main, merged_funcs, merged_program}
-use Rattle.merge_printer.proofs.PlainLaw.{statement_back, statements_back}
+use Rattle.c_lang.proofs.TreeLemmas.{statement_back, statements_back}
 use Rattle.written_laws.proofs.StatementPositions.{HavePositions, both_have}
 
 -- ---- statements

@@ -7,7 +7,7 @@ use Rattle.c_lang.specs.declared.program.Func.{Func}
 use Rattle.c_lang.specs.declared.program.Program.{Program}
 use Rattle.c_types.specs.Bodies.{body_of}
 use Rattle.c_types.specs.Plain.{plain_statements, plain_func, built_func, plain}
-use Rattle.merge_printer.proofs.PlainLaw.{statements_back}
+use Rattle.c_lang.proofs.TreeLemmas.{statements_back}
 use Rattle.written_laws.proofs.PlainPositions.{plain_have}
 
 func_at : (f : Func) → FuncHasPositions f → FuncHasPositions (built_func (plain_func f))

@@ -1,4 +1,3 @@
-mod TreesBack
 mod Resolution
 mod ResolvedTyping
 mod SameScopes

@@ -17,7 +17,7 @@ use Rattle.c_types.specs.Bodies.{body_of}
 use Rattle.c_types.specs.Expressions.{place_of, resolved_name, resolved_literal, resolved}
 use Rattle.c_types.specs.Calls.{place_in, element_kind, first_place, other_places, resolved_args, resolved_call}
 use Rattle.c_types.specs.Statements.{scope_after, entered, after_block, resolved_statement, resolved_list}
-use Rattle.merged_types.proofs.TreesBack.{body_back}
+use Rattle.c_lang.proofs.TreeLemmas.{statements_back}
 
 -- ---- expressions
 
@@ -143,4 +143,4 @@ mutual
   list_built s (more t ts) = ap₂ (λ (x : Stmt) (xs : List Stmt). x ∷ xs) (statement_built s t) (list_built (scope_after s t) ts)
 
 pub body_resolved : (s : Scope) (ts : Statements) → body_of (resolved_list s ts) ≡ list_tree s ts
-body_resolved s ts = ap body_of (list_built s ts) ∙ body_back (list_tree s ts)
+body_resolved s ts = ap body_of (list_built s ts) ∙ statements_back (list_tree s ts)

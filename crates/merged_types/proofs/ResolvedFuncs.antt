@@ -23,7 +23,7 @@ use Rattle.merged_program.specs.Statements.{merged_statements, return_zero}
 use Rattle.merged_program.specs.Programs.{ending}
 use Rattle.c_types.proofs.Combined.{both_true}
 use Rattle.merged_program.proofs.MergedNames.{by_bool}
-use Rattle.merged_types.proofs.TreesBack.{body_back}
+use Rattle.c_lang.proofs.TreeLemmas.{statements_back}
 use Rattle.merged_types.proofs.EntryLaws.{renamed_added}
 use Rattle.merged_types.proofs.Resolution.{list_tree, list_built}
 use Rattle.merged_types.proofs.ResolvedTyping.{IsResolvedReturn, AreResolved}
@@ -64,7 +64,7 @@ source_resolved outside xform f h =
 
 module _ (outside : Entries) (f : Func) (h : IsResolvedFunc outside false f) where
   plain_body : body_of (built_func (plain_func f)).body ≡ plain_statements h.tree
-  plain_body = body_back (plain_statements (body_of f.body)) ∙ ap plain_statements (ap body_of h.built ∙ body_back h.tree)
+  plain_body = statements_back (plain_statements (body_of f.body)) ∙ ap plain_statements (ap body_of h.built ∙ statements_back h.tree)
 
   plain_is : ArePlain (block_in (body_scope outside false f)) (entered (body_scope outside false f) (plain_statements h.tree)) (plain_statements h.tree) h.tree
   plain_is =
@@ -202,7 +202,7 @@ module _ (permits : ℕ → Bool) (ρs κs : Provenance → Bytes → Bytes) (o 
     }
 
     body_is : body_of f.body ≡ h.tree
-    body_is = ap body_of h.built ∙ body_back h.tree
+    body_is = ap body_of h.built ∙ statements_back h.tree
 
     ends_same : can_end (merged h.tree) ≡ can_end h.tree
     ends_same = (flow_merged_list permits ρs κs o (block_in scope) (entered scope h.tree) h.tree h.body).ends
