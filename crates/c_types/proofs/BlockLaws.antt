@@ -7,7 +7,7 @@ use Rattle.c_lang.specs.declared.stmt.Dest.{Dest}
 use Rattle.c_lang.specs.declared.stmt.Dest.TheVariants.{Nowhere, Into, Fresh}
 use Rattle.c_types.specs.Names.{Means, Cell, Entries, found, added}
 use Rattle.c_types.specs.Scopes.{with_dest, Scope}
-use Rattle.c_types.specs.Statements.{dest_of, with_locals, scope_after_all, entered, after_block}
+use Rattle.c_types.specs.Statements.{dest_of, with_locals, scope_after_all, begun, after_body}
 
 -- a list and what stands behind it
 record Behind (before after : Entries) : Type 0 where
@@ -40,8 +40,8 @@ locals_leave es ss = let b = locals_behind es ss in rw b.is (take-append_seam es
 
 -- what is left of the scope once the block's names are gone
 pub block_left : (s t : Scope) (ss : Statements) (base mark : ℕ) (locals told ahead : Entries)
-    → base ≡ length s.locals → mark ≡ length s.ahead → t ≡ scope_after_all (entered s ss) ss
+    → base ≡ length s.locals → mark ≡ length s.ahead → t ≡ scope_after_all (begun s ss) ss
     → told ≡ with_locals t.told ss → locals ≡ take base t.locals → ahead ≡ take mark t.ahead
-    → ◌≡◌ {A = Scope} (record { outside = t.outside; locals = locals; told = told; ahead = ahead; gives = t.gives; xform = t.xform }) (after_block s ss)
+    → ◌≡◌ {A = Scope} (record t { locals = locals; told = told; ahead = ahead }) (after_body s ss)
 block_left s t ss base mark locals told ahead at_base at_mark after told_more cut cut_ahead =
     rw (cut, cut_ahead, told_more, after, at_base, at_mark, locals_leave s.locals ss, locals_leave s.ahead ss) refl

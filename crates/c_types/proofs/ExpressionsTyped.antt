@@ -5,7 +5,7 @@ use Rattle.c_lang.specs.declared.stmt.Kind.{Kind}
 use Rattle.c_lang.specs.declared.stmt.Kind.TheVariants.{Int, Fp}
 use Rattle.c_lang.specs.Refusals as numbers
 use Rattle.c_types.specs.Names.{Means, Cell, Array, Code, Refused, Names, smaller, fits}
-use Rattle.c_types.specs.Expressions.{wrong_name, wrong_function, wrong_array, wrong_literal, wrong_null, place_of, wrong}
+use Rattle.c_types.specs.Expressions.{wrong_name, wrong_function, wrong_array, wrong_element_of, wrong_literal, wrong_null, place_of, wrong}
 use Rattle.c_types.specs.Typing.{IsValue, IsFunction, IsArray, IsLiteral, IsPointer, IsTyped}
 use Rattle.c_types.proofs.Combined.{some_none, both_none, fit_sound, fit_itself}
 
@@ -49,6 +49,18 @@ array_complete (Cell k) h = absurd h
 array_complete (Code params gives value denied) h = absurd h
 array_complete (Refused n) h = absurd h
 
+element_of_sound : (p : Kind) (m : Means) → wrong_element_of p m ≡ None → (p ≡ Int) × IsArray m
+element_of_sound p Array h = (fit_sound p Int h, tt)
+element_of_sound p (Cell k) h = absurd (some_none numbers.wrong_kind h)
+element_of_sound p (Code params gives value denied) h = absurd (some_none numbers.wrong_kind h)
+element_of_sound p (Refused n) h = absurd (some_none n h)
+
+element_of_complete : (p : Kind) (m : Means) → p ≡ Int → IsArray m → wrong_element_of p m ≡ None
+element_of_complete p Array e h = fit_itself p Int e
+element_of_complete p (Cell k) e h = absurd h
+element_of_complete p (Code params gives value denied) e h = absurd h
+element_of_complete p (Refused n) e h = absurd h
+
 literal_sound : (p : Kind) (z : ℤ) → wrong_literal p z ≡ None → IsLiteral p z
 literal_sound Int z h = tt
 literal_sound (Fp n) (pos zero) h = refl
@@ -71,9 +83,9 @@ pub typed : (names : Names) (p : Kind) (e : Expression) → wrong names p e ≡ 
 typed names p (literal z) h = literal_sound p z h
 typed names p (variable x) h = value_sound p (names x) h
 typed names p (element a i) h =
-    let q = both_none (fits p Int) (smaller (wrong_array (names a)) (wrong names Int i)) h in
-    let r = both_none (wrong_array (names a)) (wrong names Int i) q.1 in
-    (fit_sound p Int q.0, array_sound (names a) r.0, typed names Int i r.1)
+    let q = both_none (wrong_element_of p (names a)) (wrong names Int i) h in
+    let r = element_of_sound p (names a) q.0 in
+    (r.0, r.1, typed names Int i q.1)
 typed names p (function f) h = function_sound p (names f) h
 typed names p null h = null_sound p h
 typed names p (negation a) h =
@@ -91,7 +103,7 @@ typed names p (binary o a b) h =
 pub not_wrong : (names : Names) (p : Kind) (e : Expression) → IsTyped names p e → wrong names p e ≡ None
 not_wrong names p (literal z) h = literal_complete p z h
 not_wrong names p (variable x) h = value_complete p (names x) h
-not_wrong names p (element a i) h = rw (fit_itself p Int h.0, array_complete (names a) h.1, not_wrong names Int i h.2) refl
+not_wrong names p (element a i) h = rw (element_of_complete p (names a) h.0 h.1, not_wrong names Int i h.2) refl
 not_wrong names p (function f) h = function_complete p (names f) h
 not_wrong names p null h = null_complete p h
 not_wrong names p (negation a) h = rw (fit_itself p Int h.0, not_wrong names Int a h.1) refl

@@ -1,14 +1,56 @@
--- Parameters change only the locals of a scope.
-use Rattle.std.proofs.Common.{◌≡◌, List, [], ◌∷◌, refl}
+-- Parameters change only the locals of a scope, and so does a body in which no force may stand.
+use Rattle.std.proofs.Common.{◌≡◌, Bool, List, [], ◌∷◌, Option, None, refl, sym, ap, ◌∙◌}
 use Rattle.c_lang.specs.Names.{Bytes}
+use Rattle.c_lang.specs.Trees.{Statement, Statements, none, more}
 use Rattle.c_lang.specs.declared.stmt.Kind.{Kind}
+use Rattle.c_types.specs.Names.{Entries}
 use Rattle.c_types.specs.Scopes.{Scope}
-use Rattle.c_types.specs.Functions.{with_param, with_params}
+use Rattle.c_types.specs.Functions.{with_param, with_params, start_of, scope_of, IsPlain}
+use Rattle.c_types.specs.Statements.{outside_after, forced_after, outside_after_all, forced_after_all, scope_after, begun, entered, after_body, after_block}
 
-pub params_outside : (s : Scope) (ps : List (Kind × Bytes)) → (with_params s ps).outside ≡ s.outside
-params_outside s [] = refl
-params_outside s (p ∷ ps) = params_outside (with_param s p) ps
+pub params_start : (s : Scope) (ps : List (Kind × Bytes)) (gives : Bool) → start_of (with_params s ps) gives ≡ start_of s gives
+params_start s [] gives = refl
+params_start s (p ∷ ps) gives = params_start (with_param s p) ps gives
 
-pub params_xform : (s : Scope) (ps : List (Kind × Bytes)) → (with_params s ps).xform ≡ s.xform
-params_xform s [] = refl
-params_xform s (p ∷ ps) = params_xform (with_param s p) ps
+pub params_forced : (s : Scope) (ps : List (Kind × Bytes)) → (with_params s ps).forced ≡ s.forced
+params_forced s [] = refl
+params_forced s (p ∷ ps) = params_forced (with_param s p) ps
+
+-- ---- where no force may stand
+
+pub outside_stays : (outside : Entries) (ss : Statements) → outside_after_all outside None ss ≡ outside
+outside_stays outside none = refl
+outside_stays outside (more s ss) = outside_stays outside ss
+
+pub forced_stays : (ss : Statements) → forced_after_all None ss ≡ None
+forced_stays none = refl
+forced_stays (more s ss) = forced_stays ss
+
+pub sees_the_same : (outside : Entries) (forced : Option Entries) (s : Statement) → forced ≡ None → outside_after outside forced s ≡ outside
+sees_the_same outside forced s h = ap (λ (o : Option Entries). outside_after outside o s) h
+
+pub still_unforced : (forced : Option Entries) (s : Statement) → forced ≡ None → forced_after forced s ≡ None
+still_unforced forced s h = ap (λ (o : Option Entries). forced_after o s) h
+
+-- a body is entered as every block
+pub begun_is_entered : (s : Scope) (ss : Statements) → s.forced ≡ None → begun s ss ≡ entered s ss
+begun_is_entered s ss h = ap (λ (o : Option Entries). record (entered s ss) { forced = o }) h
+
+pub body_stays : (s : Scope) (ss : Statements) (gives : Bool) → s.forced ≡ None → start_of (after_body s ss) gives ≡ start_of s gives
+body_stays s ss gives h =
+    let outside : outside_after_all s.outside s.forced ss ≡ s.outside =
+    ap (λ (o : Option Entries). outside_after_all s.outside o ss) h ∙ outside_stays s.outside ss in
+    let forced : forced_after_all s.forced ss ≡ s.forced = ap (λ (o : Option Entries). forced_after_all o ss) h ∙ forced_stays ss ∙ sym h in
+    (λ i. record (start_of s gives) { outside = outside i; forced = forced i })
+
+-- what a block in a block leaves, once a force may stand again
+pub inner_left : (s t : Scope) (ss : Statements) (emptied forced : Option Entries) → emptied ≡ None → forced ≡ s.forced
+    → t ≡ after_body (record s { forced = emptied }) ss → ◌≡◌ {A = Scope} (record t { forced = forced }) (after_block s ss)
+inner_left s t ss emptied forced taken given h =
+    let left = ap (λ (o : Option Entries). outside_after_all s.outside o ss) taken ∙ outside_stays s.outside ss in
+    ap (λ (u : Scope). record u { forced = forced }) h ∙ (λ i. record (after_block s ss) { outside = left i; forced = given i })
+
+-- ---- scopes without force and picks
+
+pub plain_start : (s : Scope) (gives : Bool) → IsPlain s → start_of s gives ≡ scope_of s.outside s.xform gives
+plain_start s gives h = (λ i. record (start_of s gives) { forced = h.0 i; picks = h.1 i })

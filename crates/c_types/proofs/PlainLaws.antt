@@ -8,20 +8,21 @@ use Rattle.c_lang.specs.declared.unit.Unit.{Unit}
 use Rattle.c_lang.specs.declared.unit.Pos.{Pos}
 use Rattle.c_lang.specs.declared.stmt.Dest.{Dest}
 use Rattle.c_lang.specs.declared.stmt.Kind.{Kind}
+use Rattle.c_lang.specs.declared.stmt.Stmt.TheVariants as stmt
 use Rattle.c_lang.specs.declared.stmt.Kind.TheVariants.{Int, Fp}
 use Rattle.c_lang.specs.declared.program.Func.{Func}
 use Rattle.c_lang.specs.declared.program.Program.{Program}
-use Rattle.c_lang.proofs.TreeLemmas.{expression_of-Lit, expression_of-Var, expression_of-Elem, expression_of-FunRef, expression_of-Null, expression_of-Neg, expression_of-Not, expression_of-Bin, statement_of-Skip, statement_of-Set, statement_of-SetElem, statement_of-Call, statement_of-CallBy, statement_of-If, statement_of-While, statement_of-Break, statement_of-Return, statement_of-Assert, statement_of-Input, statement_of-Output, statement_of-Point, statement_of-Choice}
+use Rattle.c_lang.proofs.TreeLemmas.{expression_of-Lit, expression_of-Var, expression_of-Elem, expression_of-FunRef, expression_of-Null, expression_of-Neg, expression_of-Not, expression_of-Bin, statement_of-Skip, statement_of-Set, statement_of-SetElem, statement_of-Call, statement_of-CallBy, statement_of-If, statement_of-While, statement_of-Break, statement_of-Return, statement_of-Assert, statement_of-Input, statement_of-Output, statement_of-Point, statement_of-Choice, statement_of-Force, statement_of-Pick}
 use Rattle.c_types.specs.Names.{Means, Cell, Array, Code, Refused, Names, Entries}
-use Rattle.c_types.specs.Scopes.{Scope, Block, names_of}
+use Rattle.c_types.specs.Scopes.{Scope, Block, names_of, Picks, in_pick}
 use Rattle.c_types.specs.Bodies.{body_of}
-use Rattle.c_types.specs.Expressions.{own_kind, place_of, resolved_name, resolved_literal, resolved}
-use Rattle.c_types.specs.Calls.{place_in, element_kind, ints, resolved_args, resolved_call}
-use Rattle.c_types.specs.Statements.{scope_after, block_in, entered, after_block, resolved_statement, resolved_list}
-use Rattle.c_types.specs.Functions.{body_scope, resolved_func}
+use Rattle.c_types.specs.Expressions.{own_kind, place_of, resolved_name, resolved_literal, resolved, or_int, kind_of_element}
+use Rattle.c_types.specs.Calls.{place_in, element_kind, ints, resolved_args, resolved_call, picked, places_of}
+use Rattle.c_types.specs.Statements.{scope_after, block_in, entered, after_block, resolved_statement, resolved_list, begun, resolved_picked, resolved_pick}
+use Rattle.c_types.specs.Functions.{body_scope, resolved_func, scope_of, with_params, resolved_from}
 use Rattle.c_types.specs.Programs.{with_func, with_globals, outside_of, resolved_funcs, resolved_program}
-use Rattle.c_types.specs.Typing.{IsValue, IsFunction, IsLiteral, IsTyped, AreArguments, IsCall, IsCallBy, IsReturn, IsTypedStatement, AreTyped}
-use Rattle.c_types.specs.Types.{IsTypedFunc, AreTypedFuncs, Types}
+use Rattle.c_types.specs.Typing.{IsValue, IsFunction, IsLiteral, IsTyped, AreArguments, IsCall, IsCallBy, IsReturn, IsTypedStatement, AreTyped, IsPicked, IsPick}
+use Rattle.c_types.specs.Types.{IsTypedFunc, AreTypedFuncs, Types, IsTypedFrom}
 use Rattle.c_types.specs.Plain.{plain_expression, plain_statement, plain_statements, plain_func, plain_program}
 use Rattle.c_types.proofs.StatementsTyped.{array_kind}
 
@@ -70,13 +71,19 @@ function_int (Cell k) f names is h = absurd h
 function_int Array f names is h = absurd h
 function_int (Refused n) f names is h = absurd h
 
+element_int : (m : Means) → or_int (kind_of_element m) ≡ Int
+element_int Array = refl
+element_int (Cell k) = refl
+element_int (Code params gives value denied) = refl
+element_int (Refused n) = refl
+
 -- an int has the kind int
 own_int : (names : Names) (e : Expression) → IsTyped names Int e → own_kind names e ≡ Int
 own_int names (literal (pos zero)) h = refl
 own_int names (literal (pos (suc n))) h = refl
 own_int names (literal (negsuc n)) h = refl
 own_int names (variable x) h = value_int (names x) x names refl h
-own_int names (element a i) h = refl
+own_int names (element a i) h = element_int (names a)
 own_int names (function f) h = function_int (names f) f names refl h
 own_int names null h = absurd h
 own_int names (negation a) h = refl
@@ -122,6 +129,42 @@ plain_call_by s (Code params gives value denied) p d x es h = absurd h
 plain_call_by s Array p d x es h = absurd h
 plain_call_by s (Refused n) p d x es h = absurd h
 
+plain_picked_call : (s : Scope) (m : Means) (p : Pos) (d : Dest) (f : Bytes) (es : List Expression) → IsCall s (picked m) d es
+    → plain_statement (statement_of (stmt.Call p d f (resolved_args (names_of s) (places_of m) es))) ≡ call p d f (map plain_expression es)
+plain_picked_call s (Code params gives value None) p d f es h =
+    ap plain_statement (statement_of-Call p d f (resolved_args (names_of s) params es)) ∙ ap (call p d f) (plain_args (names_of s) params es h.2)
+plain_picked_call s (Code params gives value (Some n)) p d f es h = absurd h
+plain_picked_call s (Cell Int) p d f es h = absurd h
+plain_picked_call s (Cell (Fp n)) p d f es h = absurd h
+plain_picked_call s Array p d f es h = absurd h
+plain_picked_call s (Refused n) p d f es h = absurd h
+
+plain_picked : (at : Pos) (b : Block) (s : Scope) (o : Entries) (t : Statement) → IsPicked b s o t
+    → plain_statement (statement_of (resolved_picked at s o t)) ≡ plain_statement t
+plain_picked at b s o (call p d f es) h = plain_picked_call (in_pick s o) (names_of (in_pick s o) f) p d f es h.1
+plain_picked at b s o (skip p) h = absurd h
+plain_picked at b s o (set p d e) h = absurd h
+plain_picked at b s o (set_element p a i e) h = absurd h
+plain_picked at b s o (call_by p d x es) h = absurd h
+plain_picked at b s o (if_else p e xs ys) h = absurd h
+plain_picked at b s o (while_loop p e xs) h = absurd h
+plain_picked at b s o (break_loop p) h = absurd h
+plain_picked at b s o (return_with p e) h = absurd h
+plain_picked at b s o (assert_that p e) h = absurd h
+plain_picked at b s o (input p d) h = absurd h
+plain_picked at b s o (output p e) h = absurd h
+plain_picked at b s o (point p k) h = absurd h
+plain_picked at b s o (choice p d k) h = absurd h
+plain_picked at b s o (force p) h = absurd h
+plain_picked at b s o (pick p x y) h = absurd h
+
+plain_pick : (p : Pos) (b : Block) (s : Scope) (o : Option Picks) (x y : Statement) → IsPick b s o x y
+    → plain_statement (statement_of (resolved_pick p s o x y)) ≡ pick p (plain_statement x) (plain_statement y)
+plain_pick p b s None x y h = absurd h
+plain_pick p b s (Some names) x y h =
+    ap plain_statement (statement_of-Pick p (resolved_picked p s names.after x) (resolved_picked p s names.before y))
+    ∙ ap₂ (pick p) (plain_picked p b s names.after x h.0) (plain_picked p b s names.before y h.1)
+
 plain_return : (names : Names) (gives : Bool) (p : Pos) (e : Option Expression) → IsReturn names gives e
     → option_map plain_expression (option_map expression_of (option_map (resolved names Int) e)) ≡ option_map plain_expression e
 plain_return names gives p None h = refl
@@ -164,8 +207,8 @@ mutual
       ap plain_statement (statement_of-Output p (resolved (names_of s) Int e)) ∙ ap (output p) (plain_resolved (names_of s) Int e h.1)
   plain_statement_resolved b s (point p k) h = ap plain_statement (statement_of-Point p k)
   plain_statement_resolved b s (choice p d k) h = ap plain_statement (statement_of-Choice p d k)
-  plain_statement_resolved b s (force p) h = absurd h
-  plain_statement_resolved b s (pick p x y) h = absurd h
+  plain_statement_resolved b s (force p) h = ap plain_statement (statement_of-Force p)
+  plain_statement_resolved b s (pick p x y) h = plain_pick p b s s.picks x y h
 
   plain_list_resolved : (b : Block) (s : Scope) (ts : Statements) → AreTyped b s ts
       → plain_statements (body_of (resolved_list s ts)) ≡ plain_statements ts
@@ -175,12 +218,15 @@ mutual
 
 -- ---- functions and programs
 
+pub plain_from_resolved : (start : Scope) (f : Func) → IsTypedFrom start f → plain_func (resolved_from start f) ≡ plain_func f
+plain_from_resolved start f h =
+    let s = with_params start f.params in
+    let same = plain_list_resolved (block_in s) (begun s (body_of f.body)) (body_of f.body) h.body in
+    (λ i. record { name = f.name; params = f.params; gives = f.gives; body = same i; pos = f.pos })
+
 pub plain_func_resolved : (outside : Entries) (xform : Bool) (f : Func) → IsTypedFunc outside xform f
     → plain_func (resolved_func outside xform f) ≡ plain_func f
-plain_func_resolved outside xform f h =
-    let s = body_scope outside xform f in
-    let same = plain_list_resolved (block_in s) (entered s (body_of f.body)) (body_of f.body) h.body in
-    (λ i. record { name = f.name; params = f.params; gives = f.gives; body = same i; pos = f.pos })
+plain_func_resolved outside xform f h = plain_from_resolved (scope_of outside xform f.gives) f h
 
 plain_funcs_resolved : (outside : Entries) (xform : Bool) (seen : Entries) (fs : List Func) → AreTypedFuncs outside xform seen fs
     → map plain_func (resolved_funcs outside xform fs) ≡ map plain_func fs

@@ -20,13 +20,13 @@ use Rattle.c_types.specs.Scopes.{Scope, wrong_fresh}
 use Rattle.c_lang.specs.Kinds.{same_kind, same_kinds, same_result}
 use Rattle.c_types.specs.Checks.{at_place, first}
 use Rattle.c_types.specs.Endings.{can_end}
-use Rattle.c_types.specs.Statements.{block_in, entered, refusal_in}
-use Rattle.c_types.specs.Functions.{kinds_of, is_wide, any_wide, wrong_params_count, scope_of, with_param, params_block, wrong_params, is_main, wrong_end, wrong_head, body_scope, refusal_of_func}
+use Rattle.c_types.specs.Statements.{block_in, entered, refusal_in, begun, refusal_of_body}
+use Rattle.c_types.specs.Functions.{kinds_of, is_wide, any_wide, wrong_params_count, scope_of, with_param, params_block, wrong_params, is_main, wrong_end, wrong_head, body_scope, refusal_of_func, with_params, refusal_from}
 use Rattle.c_types.specs.Programs.{with_global, with_globals, with_func, with_funcs, outside_of, wrong_again, wrong_initial, early_number, wrong_shape, cells_of, wrong_cells, wrong_global, refusal_of_globals, wrong_match, wrong_proto, refusal_of_protos, refusal_of_funcs, has_main, wrong_main, first_early, first_line, refusal_of_declarations, refusal_of_whole, first_refusal}
 use Rattle.c_lang.specs.Limits.{cell_limit, parameter_limit}
 use Rattle.c_lang.specs.Refusals as numbers
 use Rattle.c_types.specs.Typing.{IsNarrow}
-use Rattle.c_types.specs.Types.{IsInitial, IsHeld, IsTypedGlobal, AreTypedGlobals, AreNarrow, IsMatch, AreTypedProtos, AreParams, IsTypedFunc, AreTypedFuncs, Types}
+use Rattle.c_types.specs.Types.{IsInitial, IsHeld, IsTypedGlobal, AreTypedGlobals, AreNarrow, IsMatch, AreTypedProtos, AreParams, IsTypedFunc, AreTypedFuncs, Types, IsTypedFrom}
 use Rattle.c_types.proofs.Combined.{some_none, both_none, smaller_none, first_none, none_first, at_none, none_at, test_false, test_true, not_some, either_false, both_true, same_sound, same_itself}
 use Rattle.c_types.proofs.ExpressionsTyped.{function_sound, function_complete}
 use Rattle.c_types.proofs.StatementsTyped.{narrow_sound, narrow_complete, fresh_sound, fresh_complete, typed_all, none_refused}
@@ -213,13 +213,11 @@ end_complete true false ends h = rw (h refl refl) refl
 end_complete true true ends h = refl
 end_complete false main ends h = refl
 
-pub func_sound : (again : Option ℕ) (outside : Entries) (xform : Bool) (f : Func) → refusal_of_func again outside xform f ≡ None
-    → (again ≡ None) × IsTypedFunc outside xform f
-func_sound again outside xform f h =
-    let s = scope_of outside xform f.gives in
+pub from_sound : (again : Option ℕ) (s : Scope) (f : Func) → refusal_from again s f ≡ None → (again ≡ None) × IsTypedFrom s f
+from_sound again s f h =
     let ss = body_of f.body in
-    let inner = body_scope outside xform f in
-    let p = first_none (at_place (wrong_head again s f) f.pos) (refusal_in inner ss) h in
+    let inner = with_params s f.params in
+    let p = first_none (at_place (wrong_head again s f) f.pos) (refusal_of_body inner ss) h in
     let count = wrong_params_count (kinds_of f.params) in
     let q = both_none again (smaller (wrong_params s None f.params) (smaller (wrong_end f) count)) (at_none _ f.pos p.0) in
     let r = both_none (wrong_params s None f.params) (smaller (wrong_end f) count) q.1 in
@@ -232,22 +230,28 @@ func_sound again outside xform f h =
         few = sizes.0;
         narrow = sizes.1;
         gives = end_sound f.gives (is_main f.name) (can_end ss) t.0;
-        body = typed_all (block_in inner) (entered inner ss) ss p.1;
+        body = typed_all (block_in inner) (begun inner ss) ss p.1;
       },
     )
 
-pub func_complete : (again : Option ℕ) (outside : Entries) (xform : Bool) (f : Func) → again ≡ None → IsTypedFunc outside xform f
-    → refusal_of_func again outside xform f ≡ None
-func_complete again outside xform f a h =
-    let s = scope_of outside xform f.gives in
+pub from_complete : (again : Option ℕ) (s : Scope) (f : Func) → again ≡ None → IsTypedFrom s f → refusal_from again s f ≡ None
+from_complete again s f a h =
     let ss = body_of f.body in
-    let inner = body_scope outside xform f in
+    let inner = with_params s f.params in
     none_first _ _
     (none_at _ f.pos
     (smaller_none _ _ a
     (smaller_none _ _ (params_complete s None f.params refl h.params)
     (smaller_none _ _ (end_complete f.gives (is_main f.name) (can_end ss) h.gives) (count_complete (kinds_of f.params) h.few h.narrow)))))
-    (none_refused (block_in inner) (entered inner ss) ss h.body)
+    (none_refused (block_in inner) (begun inner ss) ss h.body)
+
+pub func_sound : (again : Option ℕ) (outside : Entries) (xform : Bool) (f : Func) → refusal_of_func again outside xform f ≡ None
+    → (again ≡ None) × IsTypedFunc outside xform f
+func_sound again outside xform f h = from_sound again (scope_of outside xform f.gives) f h
+
+pub func_complete : (again : Option ℕ) (outside : Entries) (xform : Bool) (f : Func) → again ≡ None → IsTypedFunc outside xform f
+    → refusal_of_func again outside xform f ≡ None
+func_complete again outside xform f a h = from_complete again (scope_of outside xform f.gives) f a h
 
 funcs_sound : (outside : Entries) (xform : Bool) (seen : Entries) (fs : List Func) → refusal_of_funcs outside xform seen fs ≡ None
     → AreTypedFuncs outside xform seen fs

@@ -5,19 +5,20 @@ use Rattle.std.specs.Option.{is_some}
 use Rattle.std.proofs.lemmas.Bool.Decides.{nat_tests}
 use Rattle.c_lang.specs.Names.{Bytes}
 use Rattle.c_lang.specs.Trees.{Expression, Statement, Statements, skip, set, set_element, call, call_by, if_else, while_loop, break_loop, return_with, assert_that, input, output, point, choice, force, pick, none, more}
+use Rattle.c_lang.specs.declared.unit.Pos.{Pos}
 use Rattle.c_lang.specs.declared.stmt.Dest.{Dest}
 use Rattle.c_lang.specs.declared.stmt.Dest.TheVariants.{Nowhere, Into, Fresh}
 use Rattle.c_lang.specs.declared.stmt.Kind.{Kind}
 use Rattle.c_lang.specs.declared.stmt.Kind.TheVariants.{Int, Fp}
 use Rattle.c_lang.specs.Limits.{parameter_limit}
 use Rattle.c_lang.specs.Refusals as numbers
-use Rattle.c_types.specs.Names.{Means, Cell, Array, Code, Refused, Names, found, stands_from, stands_before, smaller}
-use Rattle.c_types.specs.Scopes.{Scope, Block, in_scope, names_of, is_another, kind_of_dest, wrong_kind, wrong_fresh, wrong_target, wrong_dest, wrong_effect, names_version}
+use Rattle.c_types.specs.Names.{Means, Cell, Array, Code, Refused, Names, Entries, found, stands_from, stands_before, smaller}
+use Rattle.c_types.specs.Scopes.{Picks, Scope, Block, in_pick, in_scope, names_of, is_another, kind_of_dest, wrong_kind, wrong_fresh, wrong_target, wrong_dest, wrong_effect, names_version}
 use Rattle.c_types.specs.Expressions.{wrong, wrong_array, own_kind}
 use Rattle.c_types.specs.Checks.{at_place, first}
-use Rattle.c_types.specs.Calls.{place_in, element_kind, ints, wrong_element, wrong_count, wrong_places, wrong_each, wrong_args, wrong_result, wrong_use, wrong_pointer, wrong_call, wrong_call_by, wrong_return}
-use Rattle.c_types.specs.Statements.{scope_after, block_in, entered, after_block, wrong_answer, refusal, refusals}
-use Rattle.c_types.specs.Typing.{IsArray, IsTyped, IsNarrow, IsFresh, IsCell, IsDest, TakesInt, IsUse, AreArguments, IsPointerCall, IsCall, IsCallBy, IsReturn, IsAnswer, IsTypedStatement, AreTyped}
+use Rattle.c_types.specs.Calls.{place_in, element_kind, ints, picked, wrong_element, wrong_count, wrong_places, wrong_each, wrong_args, wrong_result, wrong_use, wrong_pointer, wrong_call, wrong_call_by, wrong_return}
+use Rattle.c_types.specs.Statements.{scope_after, block_in, entered, after_block, wrong_answer, wrong_force, refusal_of_picked, refusal_of_pick, refusal, refusals}
+use Rattle.c_types.specs.Typing.{IsArray, IsTyped, IsNarrow, IsFresh, IsCell, IsDest, TakesInt, IsUse, AreArguments, IsPointerCall, IsCall, IsCallBy, IsReturn, IsAnswer, MayForce, IsPicked, IsPick, IsTypedStatement, AreTyped}
 use Rattle.c_types.proofs.Combined.{some_none, both_none, smaller_none, first_none, none_first, at_none, none_at, test_false, test_true, not_some, fit_sound, fit_itself}
 use Rattle.c_types.proofs.ExpressionsTyped.{array_sound, array_complete, typed, not_wrong}
 
@@ -218,6 +219,67 @@ answer_sound b s d h =
 answer_complete : (b : Block) (s : Scope) (d : Dest) → IsAnswer b s d → wrong_answer b s d ≡ None
 answer_complete b s d h = rw (dest_complete b s d h.0, h.1, use_complete s true d h.2) refl
 
+-- ---- statements of clients
+
+force_sound : (o : Option Entries) → wrong_force o ≡ None → MayForce o
+force_sound None h = absurd (some_none numbers.client_call h)
+force_sound (Some others) h = tt
+
+force_complete : (o : Option Entries) → MayForce o → wrong_force o ≡ None
+force_complete None h = absurd h
+force_complete (Some others) h = refl
+
+picked_sound : (at : Pos) (b : Block) (s : Scope) (o : Entries) (t : Statement) → refusal_of_picked at b s o t ≡ None → IsPicked b s o t
+picked_sound at b s o (call p d f es) h =
+    let m = picked (names_of (in_pick s o) f) in
+    let q = both_none (wrong_dest b (in_pick s o) d) (wrong_call (in_pick s o) m d es) (at_none _ p h) in
+    (dest_sound b (in_pick s o) d q.0, call_sound (in_pick s o) m d es q.1)
+picked_sound at b s o (skip p) h = absurd (some_none _ h)
+picked_sound at b s o (set p d e) h = absurd (some_none _ h)
+picked_sound at b s o (set_element p a i e) h = absurd (some_none _ h)
+picked_sound at b s o (call_by p d x es) h = absurd (some_none _ h)
+picked_sound at b s o (if_else p e xs ys) h = absurd (some_none _ h)
+picked_sound at b s o (while_loop p e xs) h = absurd (some_none _ h)
+picked_sound at b s o (break_loop p) h = absurd (some_none _ h)
+picked_sound at b s o (return_with p e) h = absurd (some_none _ h)
+picked_sound at b s o (assert_that p e) h = absurd (some_none _ h)
+picked_sound at b s o (input p d) h = absurd (some_none _ h)
+picked_sound at b s o (output p e) h = absurd (some_none _ h)
+picked_sound at b s o (point p k) h = absurd (some_none _ h)
+picked_sound at b s o (choice p d k) h = absurd (some_none _ h)
+picked_sound at b s o (force p) h = absurd (some_none _ h)
+picked_sound at b s o (pick p x y) h = absurd (some_none _ h)
+
+picked_complete : (at : Pos) (b : Block) (s : Scope) (o : Entries) (t : Statement) → IsPicked b s o t → refusal_of_picked at b s o t ≡ None
+picked_complete at b s o (call p d f es) h =
+    rw (dest_complete b (in_pick s o) d h.0, call_complete (in_pick s o) (picked (names_of (in_pick s o) f)) d es h.1) refl
+picked_complete at b s o (skip p) h = absurd h
+picked_complete at b s o (set p d e) h = absurd h
+picked_complete at b s o (set_element p a i e) h = absurd h
+picked_complete at b s o (call_by p d x es) h = absurd h
+picked_complete at b s o (if_else p e xs ys) h = absurd h
+picked_complete at b s o (while_loop p e xs) h = absurd h
+picked_complete at b s o (break_loop p) h = absurd h
+picked_complete at b s o (return_with p e) h = absurd h
+picked_complete at b s o (assert_that p e) h = absurd h
+picked_complete at b s o (input p d) h = absurd h
+picked_complete at b s o (output p e) h = absurd h
+picked_complete at b s o (point p k) h = absurd h
+picked_complete at b s o (choice p d k) h = absurd h
+picked_complete at b s o (force p) h = absurd h
+picked_complete at b s o (pick p x y) h = absurd h
+
+pick_sound : (p : Pos) (b : Block) (s : Scope) (o : Option Picks) (x y : Statement) → refusal_of_pick p b s o x y ≡ None → IsPick b s o x y
+pick_sound p b s None x y h = absurd (some_none _ h)
+pick_sound p b s (Some names) x y h =
+    let q = first_none (refusal_of_picked p b s names.after x) (refusal_of_picked p b s names.before y) h in
+    (picked_sound p b s names.after x q.0, picked_sound p b s names.before y q.1)
+
+pick_complete : (p : Pos) (b : Block) (s : Scope) (o : Option Picks) (x y : Statement) → IsPick b s o x y → refusal_of_pick p b s o x y ≡ None
+pick_complete p b s None x y h = absurd h
+pick_complete p b s (Some names) x y h =
+    none_first _ _ (picked_complete p b s names.after x h.0) (picked_complete p b s names.before y h.1)
+
 -- ---- statements
 
 mutual
@@ -250,8 +312,8 @@ mutual
       let q = both_none (wrong_effect s) (wrong (names_of s) Int e) (at_none _ p h) in (effect_sound s q.0, typed (names_of s) Int e q.1)
   typed_statement b s (point p k) h = effect_sound s (at_none _ p h)
   typed_statement b s (choice p d k) h = answer_sound b s d (at_none _ p h)
-  typed_statement b s (force p) h = some_none _ h
-  typed_statement b s (pick p x y) h = some_none _ h
+  typed_statement b s (force p) h = force_sound s.forced (at_none _ p h)
+  typed_statement b s (pick p x y) h = pick_sound p b s s.picks x y h
 
   pub typed_all : (b : Block) (s : Scope) (ts : Statements) → refusals b s ts ≡ None → AreTyped b s ts
   typed_all b s none h = tt
@@ -279,8 +341,8 @@ mutual
   statement_not_refused b s (output p e) h = rw (h.0, not_wrong (names_of s) Int e h.1) refl
   statement_not_refused b s (point p k) h = none_at _ p (rw h refl)
   statement_not_refused b s (choice p d k) h = none_at _ p (answer_complete b s d h)
-  statement_not_refused b s (force p) h = absurd h
-  statement_not_refused b s (pick p x y) h = absurd h
+  statement_not_refused b s (force p) h = none_at _ p (force_complete s.forced h)
+  statement_not_refused b s (pick p x y) h = pick_complete p b s s.picks x y h
 
   pub none_refused : (b : Block) (s : Scope) (ts : Statements) → AreTyped b s ts → refusals b s ts ≡ None
   none_refused b s none h = refl

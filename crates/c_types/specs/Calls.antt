@@ -112,6 +112,17 @@ abbrev pub resolved_call : Scope → Means → Pos → Dest → Bytes → List E
 resolved_call scope (Cell k) p d f es = stmt.CallBy p d f (resolved_args (names_of scope) [] es)
 resolved_call scope m p d f es = stmt.Call p d f (resolved_args (names_of scope) (places_of m) es)
 
+-- ---- calls in picks
+
+-- only a version's functions are called there: what may not be called, and a pointer, may not be used at all
+abbrev pub picked : Means → Means
+picked (Code params gives value None) = Code params gives value None
+picked (Code params gives value (Some n)) = Refused n
+picked (Cell Int) = Cell Int
+picked (Cell (Fp n)) = Refused refused.client_call
+picked Array = Array
+picked (Refused n) = Refused n
+
 -- ---- return
 
 abbrev pub wrong_return : Names → Bool → Option Expression → Option ℕ

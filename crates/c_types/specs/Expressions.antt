@@ -50,6 +50,19 @@ wrong_array (Refused n) = Some n
 wrong_array (Cell k) = Some refused.wrong_kind
 wrong_array (Code params gives value denied) = Some refused.wrong_kind
 
+-- an element is an int; one of a name that may not be used fits every place
+abbrev pub wrong_element_of : Kind → Means → Option ℕ
+wrong_element_of place Array = fits place Int
+wrong_element_of place (Refused n) = Some n
+wrong_element_of place (Cell k) = Some refused.wrong_kind
+wrong_element_of place (Code params gives value denied) = Some refused.wrong_kind
+
+abbrev pub kind_of_element : Means → Option Kind
+kind_of_element (Refused n) = None
+kind_of_element Array = Some Int
+kind_of_element (Cell k) = Some Int
+kind_of_element (Code params gives value denied) = Some Int
+
 -- ---- the literal 0 fits a pointer's place
 
 abbrev pub wrong_literal : Kind → ℤ → Option ℕ
@@ -67,10 +80,11 @@ resolved_literal (Fp n) z = Null
 
 -- ---- the place that both sides of an operator have
 
--- the literal 0, null and a name that is no value fit every place
+-- the literal 0, null, a name that is no value and an element of a name that may not be used fit every place
 abbrev pub kind_of : Names → Expression → Option Kind
 kind_of names (literal (pos zero)) = None
 kind_of names (variable x) = kind_of_name (names x)
+kind_of names (element a i) = kind_of_element (names a)
 kind_of names null = None
 kind_of names (function f) = kind_of_name (names f)
 kind_of names e = Some Int
@@ -97,7 +111,7 @@ place_of names o a b = if compares_kinds o then or_int (option_or (kind_of names
 abbrev pub wrong : Names → Kind → Expression → Option ℕ
 wrong names place (literal z) = wrong_literal place z
 wrong names place (variable x) = wrong_name place (names x)
-wrong names place (element a i) = smaller (fits place Int) (smaller (wrong_array (names a)) (wrong names Int i))
+wrong names place (element a i) = smaller (wrong_element_of place (names a)) (wrong names Int i)
 wrong names place (function f) = wrong_function place (names f)
 wrong names place null = wrong_null place
 wrong names place (negation a) = smaller (fits place Int) (wrong names Int a)

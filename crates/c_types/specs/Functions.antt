@@ -1,5 +1,5 @@
 -- The typing of functions: the head, then the body.
-use Rattle.std.specs.Prelude.{codes, ℕ, ◌+◌, nat_lt, Bool, true, false, not, ◌&&◌, ◌||◌, if◌then◌else◌, List, [], ◌∷◌, length, Option, Some, None, Result, bytes_eq}
+use Rattle.std.specs.Prelude.{codes, ℕ, ◌+◌, nat_lt, Bool, true, false, not, ◌&&◌, ◌||◌, if◌then◌else◌, List, [], ◌∷◌, length, Option, Some, None, Result, bytes_eq, ◌≡◌}
 use Rattle.c_lang.specs.Refusals as refused
 use Rattle.c_lang.specs.Limits.{parameter_limit}
 use Rattle.c_lang.specs.Names.{Bytes}
@@ -13,7 +13,7 @@ use Rattle.c_types.specs.Names.{Means, Cell, Code, Entries, added, smaller}
 use Rattle.c_types.specs.Scopes.{Scope, Block, wrong_fresh}
 use Rattle.c_types.specs.Checks.{at_place, first, Checked}
 use Rattle.c_types.specs.Endings.{can_end}
-use Rattle.c_types.specs.Statements.{refusal_in, resolved_block}
+use Rattle.c_types.specs.Statements.{refusal_of_body, resolved_body}
 
 -- ---- kinds of parameters
 
@@ -51,9 +51,26 @@ wrong_params_count ks = if nat_lt parameter_limit (length ks) || any_wide ks the
 
 -- ---- the head
 
--- the function's own names, before its parameters are declared
+-- the scope of a version's or a transformer's function, before its parameters are declared
 abbrev pub scope_of : Entries → Bool → Bool → Scope
-scope_of outside xform gives = record { outside = outside; locals = []; told = []; ahead = []; gives = gives; xform = xform }
+scope_of outside xform gives = record {
+  outside = outside;
+  forced = None;
+  picks = None;
+  locals = [];
+  told = [];
+  ahead = [];
+  gives = gives;
+  xform = xform;
+}
+
+-- no force and no pick may stand
+abbrev pub IsPlain : Scope → Type 0
+IsPlain scope = (scope.forced ≡ None) × (scope.picks ≡ None)
+
+-- the same of a function that sees what a scope sees
+abbrev pub start_of : Scope → Bool → Scope
+start_of scope gives = record scope { locals = []; told = []; ahead = []; gives = gives }
 
 abbrev pub with_param : Scope → Kind × Bytes → Scope
 with_param scope p = record scope { locals = added scope.locals p.1 (Cell p.0) }
@@ -88,15 +105,21 @@ wrong_head again scope f =
 abbrev pub body_scope : Entries → Bool → Func → Scope
 body_scope outside xform f = with_params (scope_of outside xform f.gives) f.params
 
+-- of a function that begins in this scope
+abbrev pub refusal_from : Option ℕ → Scope → Func → Option Refusal
+refusal_from again start f =
+    first (at_place (wrong_head again start f) f.pos) (refusal_of_body (with_params start f.params) (body_of f.body))
+
+abbrev pub resolved_from : Scope → Func → Func
+resolved_from start f = record f { body = resolved_body (with_params start f.params) (body_of f.body) }
+
+-- of a version's or a transformer's function
 abbrev pub refusal_of_func : Option ℕ → Entries → Bool → Func → Option Refusal
-refusal_of_func again outside xform f =
-    first (at_place (wrong_head again (scope_of outside xform f.gives) f) f.pos)
-    (refusal_in (body_scope outside xform f) (body_of f.body))
+refusal_of_func again outside xform f = refusal_from again (scope_of outside xform f.gives) f
 
 abbrev pub resolved_func : Entries → Bool → Func → Func
-resolved_func outside xform f =
-    record f { body = resolved_block (body_scope outside xform f) (body_of f.body) }
+resolved_func outside xform f = resolved_from (scope_of outside xform f.gives) f
 
 -- what a check answers
-abbrev pub IsFunc : Option ℕ → Entries → Bool → Func → Result Func Fail → Type 0
-IsFunc again outside xform f result = Checked result (refusal_of_func again outside xform f) (resolved_func outside xform f)
+abbrev pub IsFunc : Option ℕ → Scope → Func → Result Func Fail → Type 0
+IsFunc again start f result = Checked result (refusal_from again start f) (resolved_from start f)

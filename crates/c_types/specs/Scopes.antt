@@ -12,10 +12,19 @@ use Rattle.c_lang.specs.declared.stmt.Dest.{Dest}
 use Rattle.c_lang.specs.declared.stmt.Dest.TheVariants.{Nowhere, Into, Fresh}
 use Rattle.c_types.specs.Names.{Means, Cell, Array, Code, Refused, Names, Entries, found, meant, added, stands_from, stands_before, smaller}
 
+-- what the two calls of a pick see of the unit and of the versions
+pub record Picks : Type 0 where
+  pub after : Entries
+  pub before : Entries
+
 -- the names that a statement of a function sees, and the rules that it is under
 pub record Scope : Type 0 where
-  -- what is visible in the whole unit
+  -- what is visible in the whole unit, as it is here
   pub outside : Entries
+  -- what is visible in its place behind `dsu_force();`, where one may stand here
+  pub forced : Option Entries
+  -- what is visible in its place in picks, where they may stand
+  pub picks : Option Picks
   -- the parameters, then the locals that are visible
   pub locals : Entries
   -- the locals of the function's blocks that have ended
@@ -26,6 +35,10 @@ pub record Scope : Type 0 where
   pub gives : Bool
   -- whether the function is a transformer's
   pub xform : Bool
+
+-- one of the calls of a pick sees these names
+abbrev pub in_pick : Scope → Entries → Scope
+in_pick scope outside = record scope { outside = outside; picks = None }
 
 -- where the names of a block begin in `locals`, and in `ahead`
 pub record Block : Type 0 where

@@ -15,8 +15,8 @@ use Rattle.c_types.specs.Names.{Means, Cell, Array, Code, Refused, Entries, foun
 use Rattle.c_types.specs.Scopes.{Scope}
 use Rattle.c_types.specs.Typing.{IsFunction, IsNarrow, IsFresh, AreTyped}
 use Rattle.c_types.specs.Endings.{can_end}
-use Rattle.c_types.specs.Statements.{block_in, entered}
-use Rattle.c_types.specs.Functions.{kinds_of, scope_of, with_param, params_block, body_scope, is_main}
+use Rattle.c_types.specs.Statements.{block_in, begun}
+use Rattle.c_types.specs.Functions.{kinds_of, scope_of, with_param, with_params, params_block, is_main}
 use Rattle.c_types.specs.Programs.{with_global, with_globals, with_func, with_funcs, outside_of, cells_of, has_main}
 use Rattle.c_lang.specs.Limits.{cell_limit, element_limit, parameter_limit}
 
@@ -76,13 +76,18 @@ abbrev pub AreParams : Scope → List (Kind × Bytes) → Type 0
 AreParams scope [] = ⊤
 AreParams scope (p ∷ ps) = IsFresh params_block scope p.0 p.1 × AreParams (with_param scope p) ps
 
-pub record IsTypedFunc (outside : Entries) (xform : Bool) (f : Func) : Type 0 where
-  pub params : AreParams (scope_of outside xform f.gives) f.params
+-- a function that begins in this scope
+pub record IsTypedFrom (start : Scope) (f : Func) : Type 0 where
+  pub params : AreParams start f.params
   pub few : length (kinds_of f.params) ≤ parameter_limit
   pub narrow : AreNarrow (kinds_of f.params)
   -- only `main` may end without a value that it should give
   pub gives : f.gives ≡ true → is_main f.name ≡ false → can_end (body_of f.body) ≡ false
-  pub body : AreTyped (block_in (body_scope outside xform f)) (entered (body_scope outside xform f) (body_of f.body)) (body_of f.body)
+  pub body : AreTyped (block_in (with_params start f.params)) (begun (with_params start f.params) (body_of f.body)) (body_of f.body)
+
+-- a version's or a transformer's function
+abbrev pub IsTypedFunc : Entries → Bool → Func → Type 0
+IsTypedFunc outside xform f = IsTypedFrom (scope_of outside xform f.gives) f
 
 abbrev pub AreTypedFuncs : Entries → Bool → Entries → List Func → Type 0
 AreTypedFuncs outside xform seen [] = ⊤

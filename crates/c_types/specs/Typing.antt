@@ -7,10 +7,10 @@ use Rattle.c_lang.specs.declared.stmt.Dest.{Dest}
 use Rattle.c_lang.specs.declared.stmt.Dest.TheVariants.{Nowhere, Into, Fresh}
 use Rattle.c_lang.specs.declared.stmt.Kind.{Kind}
 use Rattle.c_lang.specs.declared.stmt.Kind.TheVariants.{Int, Fp}
-use Rattle.c_types.specs.Names.{Means, Cell, Array, Code, Refused, Names, found, stands_from, stands_before}
-use Rattle.c_types.specs.Scopes.{Scope, Block, in_scope, names_of, is_another, kind_of_dest, names_version}
+use Rattle.c_types.specs.Names.{Means, Cell, Array, Code, Refused, Names, Entries, found, stands_from, stands_before}
+use Rattle.c_types.specs.Scopes.{Picks, Scope, Block, in_scope, names_of, in_pick, is_another, kind_of_dest, names_version}
 use Rattle.c_types.specs.Expressions.{place_of}
-use Rattle.c_types.specs.Calls.{place_in, ints}
+use Rattle.c_types.specs.Calls.{place_in, ints, picked}
 use Rattle.c_types.specs.Statements.{scope_after, block_in, entered, after_block}
 
 -- ---- expressions, in a place of some kind
@@ -131,6 +131,22 @@ IsReturn names false (Some e) = ⊥
 abbrev pub IsAnswer : Block → Scope → Dest → Type 0
 IsAnswer block scope d = IsDest block scope d × (scope.xform ≡ false) × IsUse scope true d
 
+-- ---- statements of clients
+
+abbrev pub MayForce : Option Entries → Type 0
+MayForce None = ⊥
+MayForce (Some others) = ⊤
+
+-- one of the two calls of a pick, which sees these names
+abbrev pub IsPicked : Block → Scope → Entries → Statement → Type 0
+IsPicked block scope outside (call p d f es) =
+    let inside = in_pick scope outside in IsDest block inside d × IsCall inside (picked (names_of inside f)) d es
+IsPicked block scope outside s = ⊥
+
+abbrev pub IsPick : Block → Scope → Option Picks → Statement → Statement → Type 0
+IsPick block scope None a b = ⊥
+IsPick block scope (Some names) a b = IsPicked block scope names.after a × IsPicked block scope names.before b
+
 -- ---- statements of a block
 
 abbrev mutual
@@ -153,8 +169,8 @@ abbrev mutual
   IsTypedStatement block scope (output p e) = (scope.xform ≡ false) × IsTyped (names_of scope) Int e
   IsTypedStatement block scope (point p k) = scope.xform ≡ false
   IsTypedStatement block scope (choice p d k) = IsAnswer block scope d
-  IsTypedStatement block scope (force p) = ⊥
-  IsTypedStatement block scope (pick p a b) = ⊥
+  IsTypedStatement block scope (force p) = MayForce scope.forced
+  IsTypedStatement block scope (pick p a b) = IsPick block scope scope.picks a b
 
   pub AreTyped : Block → Scope → Statements → Type 0
   AreTyped block scope none = ⊤

@@ -4,6 +4,7 @@ ghost use Rattle.std.specs.Prelude.{◌≡◌, IfOk, map, []};
 ghost use Rattle.std.specs.Option.{option_copied, option_map};
 ghost use Rattle.c_lang.specs.Trees.{expression_of};
 ghost use Rattle.c_lang.specs.declared.stmt.Kind.TheVariants.{Int};
+ghost use Rattle.c_lang.specs.declared.stmt.Stmt.TheVariants.{Call};
 ghost use Rattle.c_types.specs.Code.SeenScopes.{seen_scope};
 ghost use Rattle.c_types.specs.Code.SeenMeans.{seen_name};
 ghost use Rattle.c_types.specs.Names.{meant};
@@ -215,6 +216,40 @@ pub fn wrong_call_by(
     }
 }
 
+/// The number that refuses a call of this name in a pick.
+pub fn wrong_picked(scope: &Scope, callee: Option<&Means>, dest: &Dest, args: &[Expr]) -> Option<u8>
+    ensures { result ≡ spec.wrong_call (seen_scope scope.now) (spec.picked (meant (seen_name (option_copied callee.entry)))) dest.now (map expression_of args.now) }
+{
+    match callee {
+        Some(
+            Means::Code {
+                params,
+                gives,
+                denied: None,
+                ..
+            },
+        ) => {
+            let inside = wrong_args(scope, params.as_slice(), args);
+            smaller(wrong_use(scope, *gives, dest), inside)
+        }
+        Some(
+            Means::Code {
+                denied: Some(n),
+                ..
+            },
+        ) => smaller(Some(*n), wrong_each(scope, args)),
+        Some(Means::Cell(Kind::Int)) => {
+            smaller(Some(refusal::WRONG_KIND), wrong_each(scope, args))
+        }
+        Some(Means::Cell(Kind::Fp(_))) => {
+            smaller(Some(refusal::CLIENT_CALL), wrong_each(scope, args))
+        }
+        Some(Means::Array) => smaller(Some(refusal::WRONG_KIND), wrong_each(scope, args)),
+        Some(Means::Refused(n)) => smaller(Some(*n), wrong_each(scope, args)),
+        None => smaller(Some(refusal::UNKNOWN), wrong_each(scope, args)),
+    }
+}
+
 /// Arguments in their resolved form. The only error is want of memory.
 pub fn resolve_args(
     alloc: Global,
@@ -283,6 +318,28 @@ pub fn resolve_call(
             })
         }
     }
+}
+
+/// A call of a pick in its resolved form. The only error is want of memory.
+pub fn resolve_picked(
+    alloc: Global,
+    scope: &Scope,
+    pos: Pos,
+    dest: &Dest,
+    callee: &Name,
+    args: &[Expr],
+) -> Result<Stmt, AllocError>
+    ensures { IfOk result (λ stmt. stmt ≡ Call pos dest.now callee.now (spec.resolved_args (names_of (seen_scope scope.now)) (spec.places_of (names_of (seen_scope scope.now) callee.now)) (map expression_of args.now))) }
+{
+    let dest = copy_dest(alloc, dest)?;
+    let name = callee.copy(alloc)?;
+    let args = resolve_given(alloc, scope, scope.look(callee), args)?;
+    Ok(Stmt::Call {
+        pos,
+        dest,
+        callee: name,
+        args,
+    })
 }
 
 /// The number that refuses a `return`.

@@ -62,6 +62,27 @@ pub fn wrong_array(means: Option<&Means>) -> Option<u8>
     }
 }
 
+fn wrong_element_of(place: Kind, array: Option<&Means>) -> Option<u8>
+    ensures { result ≡ spec.wrong_element_of place (meant (seen_name (option_copied array.entry))) }
+{
+    match array {
+        Some(Means::Array) => fits(place, Kind::Int),
+        Some(Means::Refused(n)) => Some(*n),
+        None => Some(refusal::UNKNOWN),
+        _ => Some(refusal::WRONG_KIND),
+    }
+}
+
+// A name that may not be used has no kind, nor have its elements.
+fn kind_of_element(array: Option<&Means>) -> Option<Kind>
+    ensures { result ≡ spec.kind_of_element (meant (seen_name (option_copied array.entry))) }
+{
+    match array {
+        Some(Means::Refused(_)) | None => None,
+        Some(Means::Array) | Some(Means::Cell(_)) | Some(Means::Code { .. }) => Some(Kind::Int),
+    }
+}
+
 fn wrong_literal(place: Kind, number: i32) -> Option<u8>
     ensures { result ≡ spec.wrong_literal place number }
 {
@@ -92,6 +113,7 @@ fn kind_of(scope: &Scope, e: &Expr) -> Option<Kind>
     match e {
         Expr::Lit(0) | Expr::Null => None,
         Expr::Var(x) | Expr::FunRef(x) => kind_of_name(scope.look(x)),
+        Expr::Elem(a, _) => kind_of_element(scope.look(a)),
         _ => Some(Kind::Int),
     }
 }
@@ -133,8 +155,8 @@ pub fn wrong(scope: &Scope, place: Kind, e: &Expr) -> Option<u8>
         Expr::Lit(z) => wrong_literal(place, *z),
         Expr::Var(x) => wrong_name(place, scope.look(x)),
         Expr::Elem(a, i) => {
-            let inside = smaller(wrong_array(scope.look(a)), wrong(scope, Kind::Int, i.get()));
-            smaller(fits(place, Kind::Int), inside)
+            let inside = wrong(scope, Kind::Int, i.get());
+            smaller(wrong_element_of(place, scope.look(a)), inside)
         }
         Expr::FunRef(f) => wrong_function(place, scope.look(f)),
         Expr::Null => wrong_null(place),

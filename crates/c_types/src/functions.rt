@@ -1,6 +1,6 @@
 //! Functions: the head, then the body. Of the scope after an error nothing is said.
 
-ghost use Rattle.std.specs.Prelude.{◌≡◌, IfOk, OnOk, None, map};
+ghost use Rattle.std.specs.Prelude.{◌≡◌, Bool, IfOk, OnOk, None, map};
 ghost use Rattle.c_lang.specs.Trees.{statement_of, statements};
 ghost use Rattle.c_types.specs.Code.SeenScopes.{seen_scope};
 ghost use Rattle.c_types.specs.Code.SeenMeans.{seen_means};
@@ -157,7 +157,7 @@ fn add_head(
 }
 
 fn enter(scope: &mut Scope, gives: bool)
-    ensures { seen_scope scope.new ≡ spec.scope_of scope.old.outside scope.old.xform gives }
+    ensures { seen_scope scope.new ≡ spec.start_of (seen_scope scope.old) gives }
 {
     scope.locals.truncate(0);
     scope.told.truncate(0);
@@ -176,16 +176,16 @@ fn copy_params(alloc: Global, params: &[(Kind, Name)]) -> Result<Items<(Kind, Na
 }
 
 /// The function with its body in the resolved form, or its first refusal. `again` is the number that
-/// refuses its name.
+/// refuses its name. Where no force may stand, functions that come after it see what it sees.
 pub fn check_func(
     alloc: Global,
     scope: &mut Scope,
     again: Option<u8>,
     f: &Func,
 ) -> Result<Func, Fail>
-    ensures checked { spec.IsFunc again scope.old.outside scope.old.xform f.now result }
-    ensures outside { OnOk result (scope.new.outside ≡ scope.old.outside) }
-    ensures xform { OnOk result (scope.new.xform ≡ scope.old.xform) }
+    ensures checked { spec.IsFunc again (spec.start_of (seen_scope scope.old) f.now.gives) f.now result }
+    ensures stays { OnOk result ((seen_scope scope.old).forced ≡ None → (gives : Bool) →
+        spec.start_of (seen_scope scope.new) gives ≡ spec.start_of (seen_scope scope.old) gives) }
 {
     enter(scope, f.gives);
     let number = add_head(alloc, scope, again, f)?;
@@ -200,4 +200,20 @@ pub fn check_func(
         body,
         pos: f.pos,
     })
+}
+
+/// The same of a version's or a transformer's function.
+pub fn check_plain_func(
+    alloc: Global,
+    scope: &mut Scope,
+    again: Option<u8>,
+    f: &Func,
+) -> Result<Func, Fail>
+    requires { spec.IsPlain (seen_scope scope.old) }
+    ensures checked { Checked result (spec.refusal_of_func again scope.old.outside scope.old.xform f.now) (spec.resolved_func scope.old.outside scope.old.xform f.now) }
+    ensures plain { OnOk result (spec.IsPlain (seen_scope scope.new)) }
+    ensures outside { OnOk result (scope.new.outside ≡ scope.old.outside) }
+    ensures xform { OnOk result (scope.new.xform ≡ scope.old.xform) }
+{
+    check_func(alloc, scope, again, f)
 }

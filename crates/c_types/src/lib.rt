@@ -3,6 +3,7 @@
 #![tactic(auto)]
 
 pub mod calls;
+mod clients;
 pub mod declarations;
 pub mod endings;
 pub mod expressions;

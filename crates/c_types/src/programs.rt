@@ -1,11 +1,13 @@
 //! Whole programs: globals, prototypes, functions, then what the program as a whole must have.
 
 ghost use Rattle.std.specs.Prelude.{◌≡◌, IfOk, OnOk, false};
+ghost use Rattle.c_types.specs.Code.SeenScopes.{seen_scope};
+ghost use Rattle.c_types.specs.Functions.{IsPlain};
 ghost use Rattle.c_types.specs.Checks.{Checked};
 ghost use Rattle.c_types.specs.Programs as spec;
 
 use crate::declarations::{add_func, check_globals, check_protos, outside_of, wrong_again};
-use crate::functions::{check_func, is_main};
+use crate::functions::{check_plain_func, is_main};
 use crate::scope::Scope;
 use crate::simple::stop;
 use crate::symbols::Symbols;
@@ -13,20 +15,21 @@ use c_lang::{Fail, Func, Kind, Name, Pos, Program, Refusal, Unit, cell_limit, re
 use sqlite_items::Items;
 use std::alloc::{AllocError, Global};
 
-/// The functions with their bodies in the resolved form, or the first refusal. `seen` has the names
-/// that are declared before them.
+/// The functions of a unit in which no force and no pick may stand, with their bodies in the resolved
+/// form, or the first refusal. `seen` has the names that are declared before them.
 pub fn check_funcs(
     alloc: Global,
     scope: &mut Scope,
     seen: &mut Symbols,
     funcs: &[Func],
 ) -> Result<Items<Func>, Fail>
+    requires { IsPlain (seen_scope scope.old) }
     ensures { spec.AreFuncs scope.old.outside scope.old.xform seen.old funcs.now result }
 {
     let mut all = Items::new(alloc);
     for f in funcs {
         let again = wrong_again(seen, &f.name);
-        all.push(check_func(alloc, scope, again, f)?)?;
+        all.push(check_plain_func(alloc, scope, again, f)?)?;
         add_func(alloc, seen, f)?;
     }
     Ok(all)
@@ -79,6 +82,8 @@ fn check_bodies(
 {
     let mut scope = Scope {
         outside,
+        forced: None,
+        picks: None,
         locals: Symbols::new(alloc),
         told: Symbols::new(alloc),
         ahead: Symbols::new(alloc),

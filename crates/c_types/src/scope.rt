@@ -12,11 +12,22 @@ use crate::symbols::Symbols;
 use c_lang::{Dest, Kind, Name, PARAMETER_LIMIT, refusal};
 use std::alloc::{AllocError, Global};
 
+/// What the two calls of a pick see of the unit and of the versions.
+#[derive(Drop)]
+pub struct Picks {
+    pub after: Symbols,
+    pub before: Symbols,
+}
+
 /// The names that a statement of a function sees, and the rules that it is under.
 #[derive(Drop)]
 pub struct Scope {
-    /// What is visible in the whole unit.
+    /// What is visible in the whole unit, as it is here.
     pub outside: Symbols,
+    /// What is visible in its place behind `dsu_force();`, where one may stand here.
+    pub forced: Option<Symbols>,
+    /// What is visible in its place in picks, where they may stand.
+    pub picks: Option<Picks>,
     /// The parameters, then the locals that are visible.
     pub locals: Symbols,
     /// The locals of the function's blocks that have ended.

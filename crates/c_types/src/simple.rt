@@ -225,17 +225,6 @@ pub fn point(scope: &Scope, pos: Pos, k: u32) -> Result<Stmt, Fail>
     Ok(Stmt::Point { pos, k })
 }
 
-/// 21, where a statement stands in clients alone.
-pub fn of_clients_alone(pos: Pos) -> Result<Stmt, Fail>
-    ensures { (stmt : Stmt) → Checked result (at_place (Some 21) pos) stmt }
-{
-    Err(Fail::Refused(Refusal {
-        number: refusal::CLIENT_CALL,
-        pos,
-        name: None,
-    }))
-}
-
 /// A `return`.
 pub fn return_with(
     alloc: Global,

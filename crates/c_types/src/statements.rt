@@ -2,20 +2,21 @@
 //! nothing is said.
 
 ghost use Rattle.std.specs.Prelude.{◌≡◌, OnOk, map};
-ghost use Rattle.c_lang.specs.Trees.{statement_of};
+ghost use Rattle.c_lang.specs.Trees as tree;
+ghost use Rattle.c_lang.specs.Trees.{expression_of, statement_of};
 ghost use Rattle.c_types.specs.Code.SeenScopes.{seen_scope, seen_block};
 ghost use Rattle.c_types.specs.Bodies.{body_of};
 ghost use Rattle.c_types.specs.Checks.{Checked};
 ghost use Rattle.c_types.specs.Scopes.{with_dest};
 ghost use Rattle.c_types.specs.Statements as spec;
 
+use crate::clients::{force, pick};
 use crate::scope::{Block, Scope, add_dest};
 use crate::simple::{
-    assert_that, call, call_by, choice, input, int, of_clients_alone, output, point, return_with,
-    set, set_element,
+    assert_that, call, call_by, choice, input, int, output, point, return_with, set, set_element,
 };
 use crate::symbols::Symbols;
-use c_lang::{Fail, Stmt};
+use c_lang::{Expr, Fail, Pos, Stmt};
 use sqlite_items::Items;
 use std::alloc::{AllocError, Global};
 
@@ -82,8 +83,8 @@ pub fn statement(alloc: Global, scope: &mut Scope, block: Block, s: &Stmt) -> Re
         } => call_by(alloc, scope, block, *pos, dest, pointer, args.as_slice()),
         Stmt::If { pos, cond, yes, no } => {
             let cond = int(alloc, scope, *pos, cond)?;
-            let yes = body(alloc, scope, yes.as_slice())?;
-            let no = body(alloc, scope, no.as_slice())?;
+            let yes = inner(alloc, scope, yes.as_slice())?;
+            let no = inner(alloc, scope, no.as_slice())?;
             Ok(Stmt::If {
                 pos: *pos,
                 cond: cond.into_inner(),
@@ -91,15 +92,7 @@ pub fn statement(alloc: Global, scope: &mut Scope, block: Block, s: &Stmt) -> Re
                 no,
             })
         }
-        Stmt::While { pos, cond, body: s } => {
-            let cond = int(alloc, scope, *pos, cond)?;
-            let body = body(alloc, scope, s.as_slice())?;
-            Ok(Stmt::While {
-                pos: *pos,
-                cond: cond.into_inner(),
-                body,
-            })
-        }
+        Stmt::While { pos, cond, body } => turn(alloc, scope, body.as_slice(), *pos, cond),
         Stmt::Break { pos } => Ok(Stmt::Break { pos: *pos }),
         Stmt::Return { pos, value } => return_with(alloc, scope, *pos, value),
         Stmt::Assert { pos, cond } => assert_that(alloc, scope, *pos, cond),
@@ -107,9 +100,31 @@ pub fn statement(alloc: Global, scope: &mut Scope, block: Block, s: &Stmt) -> Re
         Stmt::Output { pos, value } => output(alloc, scope, *pos, value),
         Stmt::Point { pos, k } => point(scope, *pos, *k),
         Stmt::Choice { pos, dest, k } => choice(alloc, scope, block, *pos, dest, *k),
-        Stmt::Force { pos } => of_clients_alone(*pos),
-        Stmt::Pick { pos, .. } => of_clients_alone(*pos),
+        Stmt::Force { pos } => force(scope, *pos),
+        Stmt::Pick { pos, after, before } => {
+            pick(alloc, scope, block, *pos, after.get(), before.get())
+        }
     }
+}
+
+#[cycle(statement)]
+fn turn(
+    alloc: Global,
+    scope: &mut Scope,
+    body: &[Stmt],
+    pos: Pos,
+    cond: &Expr,
+) -> Result<Stmt, Fail>
+    ensures checked { spec.IsStatement (spec.block_in (seen_scope scope.old)) (seen_scope scope.old) (tree.while_loop pos (expression_of cond.now) (body_of body.now)) result }
+    ensures scope { OnOk result (seen_scope scope.new ≡ spec.scope_after (seen_scope scope.old) (tree.while_loop pos (expression_of cond.now) (body_of body.now))) }
+{
+    let cond = int(alloc, scope, pos, cond)?;
+    let body = inner(alloc, scope, body)?;
+    Ok(Stmt::While {
+        pos,
+        cond: cond.into_inner(),
+        body,
+    })
 }
 
 #[cycle(statement)]
@@ -129,12 +144,24 @@ fn sequence(
     Ok(all)
 }
 
-/// The statements of a block that begins here, in their resolved form, or their first refusal. The
-/// block's locals leave the scope at its end.
+// The statements of a block within a block, in which no force may stand.
+#[cycle(statement)]
+fn inner(alloc: Global, scope: &mut Scope, stmts: &[Stmt]) -> Result<Items<Stmt>, Fail>
+    ensures checked { spec.IsBlock (seen_scope scope.old) (body_of stmts.now) result }
+    ensures scope { OnOk result (seen_scope scope.new ≡ spec.after_block (seen_scope scope.old) (body_of stmts.now)) }
+{
+    let forced = scope.forced.take();
+    let all = body(alloc, scope, stmts)?;
+    scope.forced = forced;
+    Ok(all)
+}
+
+/// The statements of a function's body, in their resolved form, or their first refusal. The body's locals
+/// leave the scope at its end.
 #[cycle(statement)]
 pub fn body(alloc: Global, scope: &mut Scope, stmts: &[Stmt]) -> Result<Items<Stmt>, Fail>
     ensures checked { spec.IsBody (seen_scope scope.old) (body_of stmts.now) result }
-    ensures scope { OnOk result (seen_scope scope.new ≡ spec.after_block (seen_scope scope.old) (body_of stmts.now)) }
+    ensures scope { OnOk result (seen_scope scope.new ≡ spec.after_body (seen_scope scope.old) (body_of stmts.now)) }
 {
     let block = Block {
         base: scope.locals.len(),
