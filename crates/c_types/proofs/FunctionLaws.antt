@@ -1,10 +1,11 @@
 -- Parameters change only the locals of a scope, and so does a body in which no force may stand.
-use Rattle.std.proofs.Common.{◌≡◌, Bool, List, [], ◌∷◌, Option, None, refl, sym, ap, ◌∙◌}
+use Rattle.std.proofs.Common.{◌≡◌, Bool, List, [], ◌∷◌, Option, None, refl, sym, ap, ◌∙◌, subst}
 use Rattle.c_lang.specs.Names.{Bytes}
 use Rattle.c_lang.specs.Trees.{Statement, Statements, none, more}
 use Rattle.c_lang.specs.declared.stmt.Kind.{Kind}
 use Rattle.c_types.specs.Names.{Entries}
-use Rattle.c_types.specs.Scopes.{Scope}
+use Rattle.c_types.specs.Scopes.{Scope, Picks, Block}
+use Rattle.c_types.specs.Typing.{MayForce, IsPick}
 use Rattle.c_types.specs.Functions.{with_param, with_params, start_of, scope_of, IsPlain}
 use Rattle.c_types.specs.Statements.{outside_after, forced_after, outside_after_all, forced_after_all, scope_after, begun, entered, after_body, after_block}
 
@@ -54,3 +55,40 @@ inner_left s t ss emptied forced taken given h =
 
 pub plain_start : (s : Scope) (gives : Bool) → IsPlain s → start_of s gives ≡ scope_of s.outside s.xform gives
 plain_start s gives h = (λ i. record (start_of s gives) { forced = h.0 i; picks = h.1 i })
+
+pub plain_params : (s : Scope) (ps : List (Kind × Bytes)) → IsPlain s → IsPlain (with_params s ps)
+plain_params s [] h = h
+plain_params s (p ∷ ps) h = plain_params (with_param s p) ps h
+
+pub no_force : (s : Scope) → IsPlain s → MayForce s.forced → ⊥
+no_force s h may = subst MayForce h.0 may
+
+pub no_pick : (b : Block) (s : Scope) (x y : Statement) → IsPlain s → IsPick b s s.picks x y → ⊥
+no_pick b s x y h may = subst (λ (o : Option Picks). IsPick b s o x y) h.1 may
+
+-- a scope without force and picks in which these names are visible in the whole unit
+pub record Sees (outside : Entries) (s : Scope) : Type 0 where
+  pub here : s.outside ≡ outside
+  pub plain : IsPlain s
+
+pub sees_after : (outside : Entries) (s : Scope) (t : Statement) → Sees outside s → Sees outside (scope_after s t)
+sees_after outside s t e = record {
+  here = sees_the_same s.outside s.forced t e.plain.0 ∙ e.here;
+  plain = (still_unforced s.forced t e.plain.0, e.plain.1);
+}
+
+pub sees_entered : (outside : Entries) (s : Scope) (ss : Statements) → Sees outside s → Sees outside (entered s ss)
+sees_entered outside s ss e = record { here = e.here; plain = (refl, e.plain.1) }
+
+pub sees_begun : (outside : Entries) (s : Scope) (ss : Statements) → Sees outside s → Sees outside (begun s ss)
+sees_begun outside s ss e = record { here = e.here; plain = e.plain }
+
+pub sees_after_block : (outside : Entries) (s : Scope) (ss : Statements) → Sees outside s → Sees outside (after_block s ss)
+sees_after_block outside s ss e = record { here = e.here; plain = e.plain }
+
+pub sees_params : (outside : Entries) (s : Scope) (ps : List (Kind × Bytes)) → Sees outside s → Sees outside (with_params s ps)
+sees_params outside s [] e = e
+sees_params outside s (p ∷ ps) e = sees_params outside (with_param s p) ps (record { here = e.here; plain = e.plain })
+
+pub sees_outside : (outside : Entries) (xform gives : Bool) → Sees outside (scope_of outside xform gives)
+sees_outside outside xform gives = record { here = refl; plain = (refl, refl) }

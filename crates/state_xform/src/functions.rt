@@ -2,13 +2,15 @@
 
 ghost use Rattle.std.specs.Prelude.{◌≡◌, true, []};
 ghost use Rattle.c_types.specs.Checks.{Checked};
+ghost use Rattle.c_types.specs.Code.SeenScopes.{seen_scope};
+ghost use Rattle.c_types.specs.Functions.{IsPlain};
 ghost use Rattle.c_types.specs.Programs.{resolved_funcs};
 ghost use Rattle.state_xform.specs.Refusals as spec;
 ghost use Rattle.state_xform.specs.Visible.{parts_in};
 
 use c_lang::{Fail, Func, Name, refusal};
 use c_types::declarations::add_func;
-use c_types::functions::check_func;
+use c_types::functions::check_plain_func;
 use c_types::scope::names_version;
 use c_types::{Scope, Symbols};
 use sqlite_items::Items;
@@ -42,13 +44,14 @@ fn check_each(
     seen: &mut Symbols,
     funcs: &[Func],
 ) -> Result<Items<Func>, Fail>
-    requires { scope.old.xform ≡ true }
+    requires plain { IsPlain (seen_scope scope.old) }
+    requires xform { scope.old.xform ≡ true }
     ensures { Checked result (spec.refusal_of_own (parts_in links.now) scope.old.outside seen.old funcs.now) (resolved_funcs scope.old.outside true funcs.now) }
 {
     let mut all = Items::new(alloc);
     for f in funcs {
         let again = wrong_own_name(links, seen, &f.name);
-        all.push(check_func(alloc, scope, again, f)?)?;
+        all.push(check_plain_func(alloc, scope, again, f)?)?;
         add_func(alloc, seen, f)?;
     }
     Ok(all)
@@ -65,6 +68,8 @@ pub fn check_funcs(
 {
     let mut scope = Scope {
         outside,
+        forced: None,
+        picks: None,
         locals: Symbols::new(alloc),
         told: Symbols::new(alloc),
         ahead: Symbols::new(alloc),

@@ -18,12 +18,12 @@ use Rattle.c_lang.specs.declared.program.Func.{Func}
 use Rattle.c_lang.specs.declared.program.Program.{Program}
 use Rattle.c_types.specs.Names.{Means, Entries, found, added}
 use Rattle.c_types.specs.Scopes.{Scope, Block, in_scope}
-use Rattle.c_types.specs.Statements.{scope_after, block_in, entered, after_block}
+use Rattle.c_types.specs.Statements.{scope_after, block_in, begun, entered, after_block}
 use Rattle.c_types.specs.Functions.{scope_of, with_param, body_scope}
 use Rattle.c_types.specs.Programs.{with_global, with_globals, with_func, with_funcs, outside_of}
 use Rattle.c_types.specs.Typing.{IsDest, IsTypedStatement, AreTyped}
 use Rattle.c_types.specs.Types.{AreParams, IsTypedFunc, AreTypedFuncs, Types}
-use Rattle.c_types.proofs.FunctionLaws.{params_outside}
+use Rattle.c_types.proofs.FunctionLaws.{Sees, sees_after, sees_entered, sees_begun, sees_after_block, sees_params, sees_outside, no_force, no_pick}
 use Rattle.written_laws.specs.Walk.{Context, with_dest, told, told_all, in_loop, past, past_all, start_of, Throughout, ThroughoutAll, InBodies}
 use Rattle.c_types.specs.Bodies.{body_of}
 use Rattle.written_laws.specs.Destinations.{OfResult}
@@ -129,10 +129,10 @@ pub record Apart (outside : Entries) (at : Context) (s : Statement) : Type 0 whe
   pub result : OfResult (IsNew outside) s
 
 module _ (outside : Entries) where
-  dest_new : (block : Block) (scope : Scope) (d : Dest) → scope.outside ≡ outside → IsDest block scope d → IsNew outside d
+  dest_new : (block : Block) (scope : Scope) (d : Dest) → Sees outside scope → IsDest block scope d → IsNew outside d
   dest_new block scope Nowhere e h = tt
   dest_new block scope (Into x) e h = tt
-  dest_new block scope (Fresh k x) e h = subst (λ (es : Entries). found es x ≡ None) e (free_outside scope x h.0.free)
+  dest_new block scope (Fresh k x) e h = subst (λ (es : Entries). found es x ≡ None) e.here (free_outside scope x h.0.free)
 
   dest_names : (names : List Bytes) (d : Dest) → AreNew outside names → IsNew outside d → AreNew outside (with_dest names d)
   dest_names names Nowhere h k = h
@@ -148,7 +148,7 @@ module _ (outside : Entries) where
     names : AreNew outside (told_all at.declared ss)
 
   mutual
-    statement_apart : (block : Block) (scope : Scope) (at : Context) (s : Statement) → scope.outside ≡ outside → at.in_pick ≡ false → AreNew outside at.declared → IsTypedStatement block scope s → Walked at s
+    statement_apart : (block : Block) (scope : Scope) (at : Context) (s : Statement) → Sees outside scope → at.in_pick ≡ false → AreNew outside at.declared → IsTypedStatement block scope s → Walked at s
     statement_apart block scope at (skip p) e free new h = record { says = record { free = free; declared = new; result = tt }; names = new }
     statement_apart block scope at (set p d a) e free new h =
         record { says = record { free = free; declared = new; result = tt }; names = dest_names at.declared d new (dest_new block scope d e h.0) }
@@ -158,11 +158,12 @@ module _ (outside : Entries) where
     statement_apart block scope at (call_by p d x es) e free new h =
         let k = dest_new block scope d e h.0 in record { says = record { free = free; declared = new; result = k }; names = dest_names at.declared d new k }
     statement_apart block scope at (if_else p a xs ys) e free new h =
-        let first = all_apart (block_in scope) (entered scope xs) at xs e free new h.1 in
-        let second = all_apart (block_in scope) (entered (after_block scope xs) ys) (past_all at xs) ys e free first.names h.2 in
+        let first = all_apart (block_in scope) (entered scope xs) at xs (sees_entered outside scope xs e) free new h.1 in
+        let second = all_apart (block_in scope) (entered (after_block scope xs) ys) (past_all at xs) ys
+            (sees_entered outside (after_block scope xs) ys (sees_after_block outside scope xs e)) free first.names h.2 in
         record { says = (record { free = free; declared = new; result = tt }, first.says, second.says); names = second.names }
     statement_apart block scope at (while_loop p a xs) e free new h =
-        let body = all_apart (block_in scope) (entered scope xs) (in_loop at) xs e free new h.1 in
+        let body = all_apart (block_in scope) (entered scope xs) (in_loop at) xs (sees_entered outside scope xs e) free new h.1 in
         record { says = (record { free = free; declared = new; result = tt }, body.says); names = body.names }
     statement_apart block scope at (break_loop p) e free new h = record { says = record { free = free; declared = new; result = tt }; names = new }
     statement_apart block scope at (return_with p a) e free new h = record { says = record { free = free; declared = new; result = tt }; names = new }
@@ -173,26 +174,28 @@ module _ (outside : Entries) where
     statement_apart block scope at (point p k) e free new h = record { says = record { free = free; declared = new; result = tt }; names = new }
     statement_apart block scope at (choice p d n) e free new h =
         let k = dest_new block scope d e h.0 in record { says = record { free = free; declared = new; result = k }; names = dest_names at.declared d new k }
-    statement_apart block scope at (force p) e free new h = absurd h
-    statement_apart block scope at (pick p a b) e free new h = absurd h
+    statement_apart block scope at (force p) e free new h = absurd (no_force scope e.plain h)
+    statement_apart block scope at (pick p a b) e free new h = absurd (no_pick block scope a b e.plain h)
 
-    all_apart : (block : Block) (scope : Scope) (at : Context) (ss : Statements) → scope.outside ≡ outside → at.in_pick ≡ false → AreNew outside at.declared → AreTyped block scope ss → WalkedAll at ss
+    all_apart : (block : Block) (scope : Scope) (at : Context) (ss : Statements) → Sees outside scope → at.in_pick ≡ false → AreNew outside at.declared → AreTyped block scope ss → WalkedAll at ss
     all_apart block scope at none e free new h = record { says = tt; names = new }
     all_apart block scope at (more s ss) e free new h =
         let first = statement_apart block scope at s e free new h.0 in
-        let rest = all_apart block (scope_after scope s) (past at s) ss e free first.names h.1 in
+        let rest = all_apart block (scope_after scope s) (past at s) ss (sees_after outside scope s e) free first.names h.1 in
         record { says = (first.says, rest.says); names = rest.names }
 
-  params_new : (scope : Scope) (qs : List (Kind × Bytes)) → scope.outside ≡ outside → AreParams scope qs → AreNew outside (names_in qs)
+  params_new : (scope : Scope) (qs : List (Kind × Bytes)) → Sees outside scope → AreParams scope qs → AreNew outside (names_in qs)
   params_new scope [] e h = none_new outside
   params_new scope (q ∷ qs) e h =
-      one_new outside q.1 (names_in qs) (subst (λ (es : Entries). found es q.1 ≡ None) e (free_outside scope q.1 h.0.free)) (params_new (with_param scope q) qs e h.1)
+      one_new outside q.1 (names_in qs) (subst (λ (es : Entries). found es q.1 ≡ None) e.here (free_outside scope q.1 h.0.free)) (params_new (with_param scope q) qs (record { here = e.here; plain = e.plain }) h.1)
 
   func_apart : (f : Func) → IsTypedFunc outside false f → ThroughoutAll (Apart outside) (start_of f) (body_of f.body)
   func_apart f h =
+      let start = scope_of outside false f.gives in
       let scope = body_scope outside false f in
-      (all_apart (block_in scope) (entered scope (body_of f.body)) (start_of f) (body_of f.body) (params_outside (scope_of outside false f.gives) f.params) refl
-      (params_new (scope_of outside false f.gives) f.params refl h.params) h.body).says
+      (all_apart (block_in scope) (begun scope (body_of f.body)) (start_of f) (body_of f.body)
+      (sees_begun outside scope (body_of f.body) (sees_params outside start f.params (sees_outside outside false f.gives))) refl
+      (params_new start f.params (sees_outside outside false f.gives) h.params) h.body).says
 
   funcs_apart : (seen : Entries) (fs : List Func) → AreTypedFuncs outside false seen fs → All (λ (f : Func). ThroughoutAll (Apart outside) (start_of f) (body_of f.body)) fs
   funcs_apart seen [] h = All-nil _
