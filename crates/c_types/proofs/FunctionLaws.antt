@@ -1,5 +1,6 @@
 -- Parameters change only the locals of a scope, and so does a body in which no force may stand.
-use Rattle.std.proofs.Common.{◌≡◌, Bool, List, [], ◌∷◌, Option, None, refl, sym, ap, ◌∙◌, subst}
+use Rattle.std.specs.Prelude.{if◌then◌else◌}
+use Rattle.std.proofs.Common.{◌≡◌, Bool, List, [], ◌∷◌, Option, None, refl, sym, ap, ◌∙◌, subst, true, false, ap₂}
 use Rattle.c_lang.specs.Names.{Bytes}
 use Rattle.c_lang.specs.Trees.{Statement, Statements, none, more}
 use Rattle.c_lang.specs.declared.stmt.Kind.{Kind}
@@ -7,7 +8,7 @@ use Rattle.c_types.specs.Names.{Entries}
 use Rattle.c_types.specs.Scopes.{Scope, Picks, Block}
 use Rattle.c_types.specs.Typing.{MayForce, IsPick}
 use Rattle.c_types.specs.Functions.{with_param, with_params, start_of, scope_of, IsPlain}
-use Rattle.c_types.specs.Statements.{outside_after, forced_after, outside_after_all, forced_after_all, scope_after, begun, entered, after_body, after_block}
+use Rattle.c_types.specs.Statements.{outside_after, forced_after, outside_after_all, forced_after_all, scope_after, begun, entered, after_body, after_block, is_force}
 
 pub params_start : (s : Scope) (ps : List (Kind × Bytes)) (gives : Bool) → start_of (with_params s ps) gives ≡ start_of s gives
 params_start s [] gives = refl
@@ -19,19 +20,25 @@ params_forced s (p ∷ ps) = params_forced (with_param s p) ps
 
 -- ---- where no force may stand
 
+both_alike : {X : Type 0} (b : Bool) (x : X) → (if b then x else x) ≡ x
+both_alike true x = refl
+both_alike false x = refl
+
+pub sees_the_same : (outside : Entries) (forced : Option Entries) (s : Statement) → forced ≡ None → outside_after outside forced s ≡ outside
+sees_the_same outside forced s h = ap (λ (o : Option Entries). outside_after outside o s) h ∙ both_alike (is_force s) outside
+
+pub still_unforced : (forced : Option Entries) (s : Statement) → forced ≡ None → forced_after forced s ≡ None
+still_unforced forced s h = ap (λ (o : Option Entries). forced_after o s) h ∙ both_alike (is_force s) None
+
 pub outside_stays : (outside : Entries) (ss : Statements) → outside_after_all outside None ss ≡ outside
 outside_stays outside none = refl
-outside_stays outside (more s ss) = outside_stays outside ss
+outside_stays outside (more s ss) =
+    ap₂ (λ (es : Entries) (o : Option Entries). outside_after_all es o ss) (sees_the_same outside None s refl) (still_unforced None s refl)
+    ∙ outside_stays outside ss
 
 pub forced_stays : (ss : Statements) → forced_after_all None ss ≡ None
 forced_stays none = refl
-forced_stays (more s ss) = forced_stays ss
-
-pub sees_the_same : (outside : Entries) (forced : Option Entries) (s : Statement) → forced ≡ None → outside_after outside forced s ≡ outside
-sees_the_same outside forced s h = ap (λ (o : Option Entries). outside_after outside o s) h
-
-pub still_unforced : (forced : Option Entries) (s : Statement) → forced ≡ None → forced_after forced s ≡ None
-still_unforced forced s h = ap (λ (o : Option Entries). forced_after o s) h
+forced_stays (more s ss) = ap (λ (o : Option Entries). forced_after_all o ss) (still_unforced None s refl) ∙ forced_stays ss
 
 -- a body is entered as every block
 pub begun_is_entered : (s : Scope) (ss : Statements) → s.forced ≡ None → begun s ss ≡ entered s ss
@@ -59,6 +66,9 @@ plain_start s gives h = (λ i. record (start_of s gives) { forced = h.0 i; picks
 pub plain_params : (s : Scope) (ps : List (Kind × Bytes)) → IsPlain s → IsPlain (with_params s ps)
 plain_params s [] h = h
 plain_params s (p ∷ ps) h = plain_params (with_param s p) ps h
+
+pub plain_after : (s : Scope) (t : Statement) → IsPlain s → IsPlain (scope_after s t)
+plain_after s t h = (still_unforced s.forced t h.0, h.1)
 
 pub no_force : (s : Scope) → IsPlain s → MayForce s.forced → ⊥
 no_force s h may = subst MayForce h.0 may

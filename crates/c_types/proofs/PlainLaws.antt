@@ -71,7 +71,7 @@ function_int (Cell k) f names is h = absurd h
 function_int Array f names is h = absurd h
 function_int (Refused n) f names is h = absurd h
 
-element_int : (m : Means) → or_int (kind_of_element m) ≡ Int
+pub element_int : (m : Means) → or_int (kind_of_element m) ≡ Int
 element_int Array = refl
 element_int (Cell k) = refl
 element_int (Code params gives value denied) = refl

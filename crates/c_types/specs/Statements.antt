@@ -1,5 +1,5 @@
 -- The typing of statements: the first refusal of a list, and its resolved form.
-use Rattle.std.specs.Prelude.{ℕ, Bool, true, false, if◌then◌else◌, List, [], ◌∷◌, length, Option, Some, None, Result}
+use Rattle.std.specs.Prelude.{ℕ, Bool, true, false, if◌then◌else◌, List, [], ◌∷◌, length, Option, Some, None, Result, unwrap_or}
 use Rattle.std.specs.Option.{option_map}
 use Rattle.c_lang.specs.Refusals as refused
 use Rattle.c_lang.specs.Trees.{Statement, Statements, skip, set, set_element, call, call_by, if_else, while_loop, break_loop, return_with, assert_that, input, output, point, choice, force, pick, none, more}
@@ -33,12 +33,10 @@ is_force s = false
 
 -- behind `dsu_force();`, where one may stand, other names are visible, and no other one may stand
 abbrev pub outside_after : Entries → Option Entries → Statement → Entries
-outside_after outside None s = outside
-outside_after outside (Some others) s = if is_force s then others else outside
+outside_after outside forced s = if is_force s then unwrap_or forced outside else outside
 
 abbrev pub forced_after : Option Entries → Statement → Option Entries
-forced_after None s = None
-forced_after (Some others) s = if is_force s then None else Some others
+forced_after forced s = if is_force s then None else forced
 
 abbrev pub outside_after_all : Entries → Option Entries → Statements → Entries
 outside_after_all outside forced none = outside
