@@ -70,7 +70,7 @@ module _ (t : Scope) (apart : found t.outside result_name ≡ None) (local : fou
 
 module _ (outside : Entries) (gives : Bool) (free : (n : ℕ) → n < 2 ^ 64 → found outside (parameter_name n) ≡ None) where
   abbrev scope : Entries → Scope
-  scope locals = record { outside = outside; locals = locals; told = []; ahead = []; gives = gives; xform = false }
+  scope locals = record { outside = outside; forced = None; picks = None; locals = locals; told = []; ahead = []; gives = gives; xform = false }
 
   -- the locals with these parameters
   abbrev with_all : Entries → List (Kind × Bytes) → Entries
@@ -174,7 +174,9 @@ module _ (outside : Entries) (gives : Bool) (free : (n : ℕ) → n < 2 ^ 64 →
           tree = more (wrapping d.pos gives (merged_name prefix.New d.name) (merged_name prefix.Old d.name) (parameters_from 1 ks)) none;
           built = refl;
           gives = λ g m. wrapping_ends d.pos (merged_name prefix.New d.name) (merged_name prefix.Old d.name) (parameters_from 1 ks) g;
-          body = subst (λ (s : Scope). AreResolved (block_in s) s (more (wrapping d.pos gives (merged_name prefix.New d.name) (merged_name prefix.Old d.name) (parameters_from 1 ks)) none))
+          body = subst (λ (s : Scope).
+              let whole = more (wrapping d.pos gives (merged_name prefix.New d.name) (merged_name prefix.Old d.name) (parameters_from 1 ks)) none in
+              AreResolved (block_in s) (entered s whole) whole)
               (sym (scope_with [] (parameters_from 1 ks)))
               (wrapper_body d.pos ks (merged_name prefix.New d.name) (merged_name prefix.Old d.name) v w few new_is old_is);
         }

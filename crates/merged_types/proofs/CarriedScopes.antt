@@ -45,6 +45,9 @@ module _ (ρ κ : Bytes → Bytes) (naming : IsNaming ρ) where
 
   pub record IsCarried (s t : Scope) : Type 0 where
     pub outside : IsOutside s.outside t.outside
+    -- no force and no pick may stand
+    pub plain : s.forced ≡ None
+    pub plain_too : t.forced ≡ None
     pub locals : t.locals ≡ renamed_entries ρ s.locals
     pub cells : (x : Bytes) → IsLocal (found s.locals x)
     pub told : AreTold s.told t.told

@@ -13,7 +13,7 @@ use Rattle.c_types.specs.Names.{Means, Cell, Array, Code, Refused, Entries, foun
 use Rattle.c_types.specs.Scopes.{Scope, Block, in_scope, names_of, with_dest}
 use Rattle.c_types.specs.Expressions.{or_int}
 use Rattle.c_types.specs.Calls.{place_in, ints}
-use Rattle.c_types.specs.Statements.{dest_of, with_locals, told_by, told_by_all, scope_after, block_in, entered, after_block}
+use Rattle.c_types.specs.Statements.{dest_of, with_locals, told_by, told_by_all, scope_after, block_in, entered, after_block, outside_after}
 use Rattle.c_types.specs.Typing.{IsArray, IsCell, IsDest, IsAnswer}
 use Rattle.version_names.specs.Provenance.{Provenance, may_update}
 use Rattle.merged_program.specs.Names.{choice_name}
@@ -21,9 +21,10 @@ use Rattle.merged_program.specs.Expressions.{renamed_dest, renamed, all_renamed,
 use Rattle.merged_program.specs.Statements.{asking, merged_statement, merged_statements}
 use Rattle.merged_types.proofs.EntryLaws.{renamed_entries, apart_found}
 use Rattle.merged_types.proofs.Carrying.{IsKeptCode, kind_carried, expression_carried, arguments_carried}
-use Rattle.merged_types.proofs.CarriedScopes.{IsNaming, HasUpdate, AreTold, IsCarried, codes_carried, names_carried, kind_of_dest_carried, use_carried, dest_carried, block_carried, locals_dest, cells_dest, told_dest, told_choice}
+use Rattle.merged_types.proofs.CarriedScopes.{IsNaming, HasUpdate, AreTold, IsCarried, codes_carried, names_carried, kind_of_dest_carried, use_carried, dest_carried, block_carried, locals_dest, cells_dest, told_dest, told_choice, IsOutside}
 use Rattle.merged_types.proofs.ResolvedTyping.{IsResolved, AreResolvedArguments, IsResolvedCall, IsResolvedCallBy, IsResolvedReturn, IsResolvedStatement, AreResolved}
 use Rattle.merged_types.proofs.AskingTyped.{asking_resolved}
+use Rattle.c_types.proofs.FunctionLaws.{sees_the_same, still_unforced}
 
 -- ---- calls and returns, in scopes that correspond
 
@@ -184,7 +185,11 @@ module _ (permits : ℕ → Bool) (ρs κs : Provenance → Bytes → Bytes) (o 
   module _ (s t : Scope) (c : IsCarriedHere s t) where
     after_carried : (b : Block) (x : Statement) → IsResolvedStatement b s x → IsCarriedHere (scope_after s x) (scope_after t (merged x))
     after_carried b x r = record {
-      outside = c.outside;
+      outside =
+          subst (λ (es : Entries). IsOutside (ρs o) (κs o) naming es (outside_after t.outside t.forced (merged x))) (sym (sees_the_same s.outside s.forced x c.plain))
+          (subst (λ (es : Entries). IsOutside (ρs o) (κs o) naming s.outside es) (sym (sees_the_same t.outside t.forced (merged x) c.plain_too)) c.outside);
+      plain = still_unforced s.forced x c.plain;
+      plain_too = still_unforced t.forced (merged x) c.plain_too;
       locals =
           ap (λ (d : Dest). with_dest t.locals d) (dest_merged x)
           ∙ ap (λ (es : Entries). with_dest es (renamed_dest (ρs o) (dest_of x))) c.locals
@@ -199,6 +204,8 @@ module _ (permits : ℕ → Bool) (ρs κs : Provenance → Bytes → Bytes) (o 
     pub entered_carried : (xs : Statements) → IsCarriedHere (entered s xs) (entered t (all_merged xs))
     entered_carried xs = record {
       outside = c.outside;
+      plain = refl;
+      plain_too = refl;
       locals = c.locals;
       cells = c.cells;
       told = c.told;
@@ -210,6 +217,8 @@ module _ (permits : ℕ → Bool) (ρs κs : Provenance → Bytes → Bytes) (o 
     after_block_carried : (b : Block) (u : Scope) (xs : Statements) → AreResolved b u xs → IsCarriedHere (after_block s xs) (after_block t (all_merged xs))
     after_block_carried b u xs r = record {
       outside = c.outside;
+      plain = c.plain;
+      plain_too = c.plain_too;
       locals = c.locals;
       cells = c.cells;
       told = told_block b u s.told t.told xs r c.told;
@@ -275,7 +284,8 @@ module _ (permits : ℕ → Bool) (ρs κs : Provenance → Bytes → Bytes) (o 
     list_carried b s t c u none h = tt
     list_carried b s t c u (more x xs) h = (
       statement_carried b s t c u x h.0,
-      list_carried b (scope_after s x) (scope_after t (merged x)) (after_carried s t c b x h.0) u xs h.1,
+      list_carried b (scope_after s x) (scope_after t (merged x)) (after_carried s t c b x h.0)
+          (subst HasUpdate (sym (sees_the_same t.outside t.forced (merged x) c.plain_too)) u) xs h.1,
     )
 
   -- a body that begins here

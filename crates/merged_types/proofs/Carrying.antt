@@ -7,7 +7,7 @@ use Rattle.c_lang.specs.Trees.{Expression, literal, variable, element, function,
 use Rattle.c_lang.specs.declared.stmt.Kind.{Kind}
 use Rattle.c_lang.specs.declared.stmt.Kind.TheVariants.{Int}
 use Rattle.c_types.specs.Names.{Means, Cell, Array, Code, Refused, Names, meant}
-use Rattle.c_types.specs.Expressions.{kind_of, kind_of_name, place_of}
+use Rattle.c_types.specs.Expressions.{kind_of, kind_of_name, place_of, kind_of_element}
 use Rattle.c_types.specs.Typing.{IsFunction, IsArray, IsCell}
 use Rattle.merged_program.specs.Expressions.{renamed, all_renamed}
 use Rattle.merged_types.proofs.ResolvedTyping.{IsVariable, IsResolved, AreResolvedArguments}
@@ -130,7 +130,7 @@ module _ (ρ κ : Bytes → Bytes) where
     pub kind_carried : (k : Kind) (e : Expression) → IsResolved names k e → kind_of names' (renamed ρ κ e) ≡ kind_of names e
     kind_carried k (literal z) h = kind_literal names names' z
     kind_carried k (variable x) h = ap kind_of_name (c.cell x (variable_cell k (names x) h))
-    kind_carried k (element a i) h = refl
+    kind_carried k (element a i) h = ap kind_of_element (c.array a h.1)
     kind_carried k (function f) h = (c.value k f h).1
     kind_carried k null h = refl
     kind_carried k (negation a) h = refl

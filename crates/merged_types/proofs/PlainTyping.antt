@@ -19,6 +19,7 @@ use Rattle.merged_types.proofs.Resolution.{name_tree, literal_tree, tree, trees,
 use Rattle.merged_types.proofs.ResolvedTyping.{IsInt, IsVariable, IsResolved, AreResolvedArguments, IsResolvedCall, IsResolvedCallBy, IsResolvedReturn, IsResolvedStatement, AreResolved}
 use Rattle.merged_types.proofs.ResolvedSources.{place_by, function_int}
 use Rattle.merged_types.proofs.SameScopes.{DeclaresSame, DeclareSame, declare_nothing, declare_more, declares_if, declares_while, same_after, same_entered, same_after_block}
+use Rattle.c_types.proofs.PlainLaws.{element_int}
 
 -- ---- expressions
 
@@ -88,7 +89,7 @@ own_int names (literal (pos zero)) h = refl
 own_int names (literal (pos (suc n))) h = refl
 own_int names (literal (negsuc n)) h = refl
 own_int names (variable x) h = variable_int (names x) h
-own_int names (element a i) h = refl
+own_int names (element a i) h = element_int (names a)
 own_int names (function f) h = function_int (names f) h
 own_int names null h = absurd h
 own_int names (negation a) h = refl
@@ -131,23 +132,23 @@ pub record ArePlain (b : Block) (s : Scope) (ts whole : Statements) : Type 0 whe
 
 mutual
   plain_declares : (t : Statement) → DeclaresSame (plain_statement t) t
-  plain_declares (skip p) = record { dest = refl; told = λ e. refl }
-  plain_declares (set p d e) = record { dest = refl; told = λ e. refl }
-  plain_declares (set_element p a i e) = record { dest = refl; told = λ e. refl }
-  plain_declares (call p d f es) = record { dest = refl; told = λ e. refl }
-  plain_declares (call_by p d x es) = record { dest = refl; told = λ e. refl }
+  plain_declares (skip p) = record { force = refl; dest = refl; told = λ e. refl }
+  plain_declares (set p d e) = record { force = refl; dest = refl; told = λ e. refl }
+  plain_declares (set_element p a i e) = record { force = refl; dest = refl; told = λ e. refl }
+  plain_declares (call p d f es) = record { force = refl; dest = refl; told = λ e. refl }
+  plain_declares (call_by p d x es) = record { force = refl; dest = refl; told = λ e. refl }
   plain_declares (if_else p c xs ys) =
       declares_if p p (plain_expression c) c (plain_statements xs) (plain_statements ys) xs ys (plain_declare xs) (plain_declare ys)
   plain_declares (while_loop p c xs) = declares_while p p (plain_expression c) c (plain_statements xs) xs (plain_declare xs)
-  plain_declares (break_loop p) = record { dest = refl; told = λ e. refl }
-  plain_declares (return_with p e) = record { dest = refl; told = λ e. refl }
-  plain_declares (assert_that p e) = record { dest = refl; told = λ e. refl }
-  plain_declares (input p d) = record { dest = refl; told = λ e. refl }
-  plain_declares (output p e) = record { dest = refl; told = λ e. refl }
-  plain_declares (point p k) = record { dest = refl; told = λ e. refl }
-  plain_declares (choice p d k) = record { dest = refl; told = λ e. refl }
-  plain_declares (force p) = record { dest = refl; told = λ e. refl }
-  plain_declares (pick p a b) = record { dest = refl; told = λ e. refl }
+  plain_declares (break_loop p) = record { force = refl; dest = refl; told = λ e. refl }
+  plain_declares (return_with p e) = record { force = refl; dest = refl; told = λ e. refl }
+  plain_declares (assert_that p e) = record { force = refl; dest = refl; told = λ e. refl }
+  plain_declares (input p d) = record { force = refl; dest = refl; told = λ e. refl }
+  plain_declares (output p e) = record { force = refl; dest = refl; told = λ e. refl }
+  plain_declares (point p k) = record { force = refl; dest = refl; told = λ e. refl }
+  plain_declares (choice p d k) = record { force = refl; dest = refl; told = λ e. refl }
+  plain_declares (force p) = record { force = refl; dest = refl; told = λ e. refl }
+  plain_declares (pick p a b) = record { force = refl; dest = refl; told = λ e. refl }
 
   pub plain_declare : (ts : Statements) → DeclareSame (plain_statements ts) ts
   plain_declare none = declare_nothing

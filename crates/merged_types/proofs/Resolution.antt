@@ -11,12 +11,12 @@ use Rattle.c_lang.specs.declared.stmt.Kind.{Kind}
 use Rattle.c_lang.specs.declared.stmt.Kind.TheVariants.{Int, Fp}
 use Rattle.c_lang.specs.declared.stmt.Stmt.{Stmt}
 use Rattle.c_lang.specs.declared.stmt.Stmt.TheVariants as stmt
-use Rattle.c_types.specs.Names.{Means, Cell, Array, Code, Refused, Names}
-use Rattle.c_types.specs.Scopes.{Scope, names_of}
+use Rattle.c_types.specs.Names.{Means, Cell, Array, Code, Refused, Names, Entries}
+use Rattle.c_types.specs.Scopes.{Scope, names_of, Picks, in_pick}
 use Rattle.c_types.specs.Bodies.{body_of}
 use Rattle.c_types.specs.Expressions.{place_of, resolved_name, resolved_literal, resolved}
-use Rattle.c_types.specs.Calls.{place_in, element_kind, first_place, other_places, resolved_args, resolved_call}
-use Rattle.c_types.specs.Statements.{scope_after, entered, after_block, resolved_statement, resolved_list}
+use Rattle.c_types.specs.Calls.{place_in, element_kind, first_place, other_places, resolved_args, resolved_call, places_of}
+use Rattle.c_types.specs.Statements.{scope_after, entered, after_block, resolved_statement, resolved_list, resolved_picked, resolved_pick}
 use Rattle.c_lang.proofs.TreeLemmas.{statements_back}
 
 -- ---- expressions
@@ -89,6 +89,14 @@ call_built s (Code params gives value denied) p d f es = ap (stmt.Call p d f) (t
 call_built s Array p d f es = ap (stmt.Call p d f) (trees_built (names_of s) [] es)
 call_built s (Refused n) p d f es = ap (stmt.Call p d f) (trees_built (names_of s) [] es)
 
+abbrev pub picked_tree : Pos → Scope → Entries → Statement → Statement
+picked_tree at s o (call p d f es) = call p d f (trees (names_of (in_pick s o)) (places_of (names_of (in_pick s o) f)) es)
+picked_tree at s o t = skip at
+
+abbrev pub pick_tree : Pos → Scope → Option Picks → Statement → Statement → Statement
+pick_tree p s None a b = skip p
+pick_tree p s (Some names) a b = pick p (picked_tree p s names.after a) (picked_tree p s names.before b)
+
 abbrev mutual
   pub statement_tree : Scope → Statement → Statement
   statement_tree s (skip p) = skip p
@@ -108,11 +116,34 @@ abbrev mutual
   statement_tree s (point p k) = point p k
   statement_tree s (choice p d k) = choice p d k
   statement_tree s (force p) = force p
-  statement_tree s (pick p a b) = skip p
+  statement_tree s (pick p a b) = pick_tree p s s.picks a b
 
   pub list_tree : Scope → Statements → Statements
   list_tree s none = none
   list_tree s (more t ts) = more (statement_tree s t) (list_tree (scope_after s t) ts)
+
+picked_built : (at : Pos) (s : Scope) (o : Entries) (t : Statement) → resolved_picked at s o t ≡ stmt_of (picked_tree at s o t)
+picked_built at s o (call p d f es) =
+    ap (stmt.Call p d f) (trees_built (names_of (in_pick s o)) (places_of (names_of (in_pick s o) f)) es)
+picked_built at s o (skip p) = refl
+picked_built at s o (set p d e) = refl
+picked_built at s o (set_element p a i e) = refl
+picked_built at s o (call_by p d x es) = refl
+picked_built at s o (if_else p e xs ys) = refl
+picked_built at s o (while_loop p e xs) = refl
+picked_built at s o (break_loop p) = refl
+picked_built at s o (return_with p e) = refl
+picked_built at s o (assert_that p e) = refl
+picked_built at s o (input p d) = refl
+picked_built at s o (output p e) = refl
+picked_built at s o (point p k) = refl
+picked_built at s o (choice p d k) = refl
+picked_built at s o (force p) = refl
+picked_built at s o (pick p x y) = refl
+
+pick_built : (p : Pos) (s : Scope) (o : Option Picks) (a b : Statement) → resolved_pick p s o a b ≡ stmt_of (pick_tree p s o a b)
+pick_built p s None a b = refl
+pick_built p s (Some names) a b = ap₂ (stmt.Pick p) (picked_built p s names.after a) (picked_built p s names.before b)
 
 mutual
   statement_built : (s : Scope) (t : Statement) → resolved_statement s t ≡ stmt_of (statement_tree s t)
@@ -136,7 +167,7 @@ mutual
   statement_built s (point p k) = refl
   statement_built s (choice p d k) = refl
   statement_built s (force p) = refl
-  statement_built s (pick p a b) = refl
+  statement_built s (pick p a b) = pick_built p s s.picks a b
 
   pub list_built : (s : Scope) (ts : Statements) → resolved_list s ts ≡ stmts_of (list_tree s ts)
   list_built s none = refl

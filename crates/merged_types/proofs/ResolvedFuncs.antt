@@ -1,5 +1,5 @@
 -- Functions that are typed and in resolved form: of sources, under merging, and of their plain forms.
-use Rattle.std.proofs.Common.{◌≡◌, ◌≤◌, ℕ, Bool, true, false, ◌&&◌, List, [], ◌∷◌, ◌++◌, map, length, Some, refl, sym, ap, ◌∙◌, subst}
+use Rattle.std.proofs.Common.{◌≡◌, ◌≤◌, ℕ, Bool, true, false, ◌&&◌, List, [], ◌∷◌, ◌++◌, map, length, Some, refl, sym, ap, ◌∙◌, subst, None}
 use Rattle.std.specs.Prelude.{if◌then◌else◌, pos}
 use Rattle.std.proofs.lemmas.List.{append-nil}
 use Rattle.c_lang.specs.Limits.{parameter_limit}
@@ -13,8 +13,8 @@ use Rattle.c_types.specs.Bodies.{body_of}
 use Rattle.c_types.specs.Names.{Cell, Entries, added}
 use Rattle.c_types.specs.Scopes.{Scope, Block, names_of, with_dest}
 use Rattle.c_types.specs.Endings.{ends, can_end}
-use Rattle.c_types.specs.Statements.{dest_of, with_locals, scope_after, block_in, entered, resolved_list}
-use Rattle.c_types.specs.Functions.{kinds_of, scope_of, with_param, with_params, params_block, is_main, body_scope, resolved_func}
+use Rattle.c_types.specs.Statements.{dest_of, with_locals, scope_after, block_in, entered, resolved_list, begun}
+use Rattle.c_types.specs.Functions.{kinds_of, scope_of, with_param, with_params, params_block, is_main, body_scope, resolved_func, IsPlain}
 use Rattle.c_types.specs.Typing.{AreTyped}
 use Rattle.c_types.specs.Types.{AreNarrow, AreParams, IsTypedFunc}
 use Rattle.c_types.specs.Plain.{plain_statements, plain_func, built_func}
@@ -33,6 +33,7 @@ use Rattle.merged_types.proofs.PlainTyping.{ArePlain, plain_declare, list_plain}
 use Rattle.merged_types.proofs.SameFlow.{flow_list_tree, flow_plain_list, flow_merged_list}
 use Rattle.merged_types.proofs.CarriedScopes.{IsNaming, HasUpdate, IsOutside, IsCarried, fresh_carried, local_added}
 use Rattle.merged_types.proofs.CarriedStatements.{body_carried}
+use Rattle.c_types.proofs.FunctionLaws.{plain_params, begun_is_entered}
 
 pub record IsResolvedFunc (outside : Entries) (xform : Bool) (f : Func) : Type 0 where
   pub params : AreParams (scope_of outside xform f.gives) f.params
@@ -43,21 +44,26 @@ pub record IsResolvedFunc (outside : Entries) (xform : Bool) (f : Func) : Type 0
   pub gives : f.gives ≡ true → is_main f.name ≡ false → can_end tree ≡ false
   pub body : AreResolved (block_in (body_scope outside xform f)) (entered (body_scope outside xform f) tree) tree
 
+plain_body_scope : (outside : Entries) (xform : Bool) (f : Func) → IsPlain (body_scope outside xform f)
+plain_body_scope outside xform f = plain_params (scope_of outside xform f.gives) f.params (refl, refl)
+
 -- ---- of sources
 
 pub source_resolved : (outside : Entries) (xform : Bool) (f : Func) → IsTypedFunc outside xform f → IsResolvedFunc outside xform (resolved_func outside xform f)
 source_resolved outside xform f h =
     let s = body_scope outside xform f in
     let ts = body_of f.body in
-    let whole = list_tree (entered s ts) ts in
+    let whole = list_tree (begun s ts) ts in
+    let plain = plain_body_scope outside xform f in
     record {
       params = h.params;
       few = h.few;
       narrow = h.narrow;
       tree = whole;
-      built = list_built (entered s ts) ts;
-      gives = λ g m. (flow_list_tree (entered s ts) ts).ends ∙ h.gives g m;
-      body = subst (λ (t : Scope). AreResolved (block_in s) t whole) (sym (same_entered whole ts (trees_declare (entered s ts) ts) s)) (list_resolved (block_in s) (entered s ts) ts h.body);
+      built = list_built (begun s ts) ts;
+      gives = λ g m. (flow_list_tree (begun s ts) ts).ends ∙ h.gives g m;
+      body = subst (λ (t : Scope). AreResolved (block_in s) t whole)
+          (begun_is_entered s ts plain.0 ∙ sym (same_entered whole ts (trees_declare (begun s ts) ts) s)) (list_resolved (block_in s) (begun s ts) ts plain h.body);
     }
 
 -- ---- of plain forms
@@ -72,6 +78,9 @@ module _ (outside : Entries) (f : Func) (h : IsResolvedFunc outside false f) whe
       subst (λ (t : Scope). ArePlain (block_in s) t (plain_statements h.tree) h.tree)
       (sym (same_entered (plain_statements h.tree) h.tree (plain_declare h.tree) s)) (list_plain (block_in s) (entered s h.tree) h.tree h.body)
 
+  same_begin : (ts : Statements) → begun (body_scope outside false f) ts ≡ entered (body_scope outside false f) ts
+  same_begin ts = begun_is_entered (body_scope outside false f) ts (plain_body_scope outside false f).0
+
   -- the plain form is typed
   pub plain_typed : IsTypedFunc outside false (built_func (plain_func f))
   plain_typed =
@@ -81,15 +90,17 @@ module _ (outside : Entries) (f : Func) (h : IsResolvedFunc outside false f) whe
         few = h.few;
         narrow = h.narrow;
         gives = λ g m. ap can_end plain_body ∙ (flow_plain_list h.tree).ends ∙ h.gives g m;
-        body = subst (λ (ts : Statements). AreTyped (block_in s) (entered s ts) ts) (sym plain_body) plain_is.typed;
+        body = subst (λ (ts : Statements). AreTyped (block_in s) (begun s ts) ts) (sym plain_body)
+            (subst (λ (t : Scope). AreTyped (block_in s) t (plain_statements h.tree)) (sym (same_begin (plain_statements h.tree))) plain_is.typed);
       }
 
   -- and the function is its resolved form
   pub plain_back : resolved_func outside false (built_func (plain_func f)) ≡ f
   plain_back =
       let s = body_scope outside false f in
-      let same : resolved_list (entered s (body_of (built_func (plain_func f)).body)) (body_of (built_func (plain_func f)).body) ≡ f.body =
-      ap (λ (ts : Statements). resolved_list (entered s ts) ts) plain_body
+      let same : resolved_list (begun s (body_of (built_func (plain_func f)).body)) (body_of (built_func (plain_func f)).body) ≡ f.body =
+      ap (λ (ts : Statements). resolved_list (begun s ts) ts) plain_body
+      ∙ ap (λ (t : Scope). resolved_list t (plain_statements h.tree)) (same_begin (plain_statements h.tree))
       ∙ list_built (entered s (plain_statements h.tree)) (plain_statements h.tree) ∙ ap stmts_of plain_is.tree ∙ sym h.built in
       (λ i. record { name = f.name; params = f.params; gives = f.gives; body = same i; pos = f.pos })
 
@@ -142,6 +153,8 @@ module _ (permits : ℕ → Bool) (ρs κs : Provenance → Bytes → Bytes) (o 
   param_carried : (s t : Scope) (p : Kind × Bytes) → IsCarriedHere s t → IsCarriedHere (with_param s p) (with_param t (renamed_param p))
   param_carried s t p c = record {
     outside = c.outside;
+    plain = c.plain;
+    plain_too = c.plain_too;
     locals =
         ap (λ (es : Entries). added es (ρs o p.1) (Cell p.0)) c.locals
         ∙ renamed_added (ρs o) naming.same s.locals p.1 (Cell p.0);
@@ -168,6 +181,8 @@ module _ (permits : ℕ → Bool) (ρs κs : Provenance → Bytes → Bytes) (o 
     begins : IsCarriedHere (scope_of outside xform f.gives) (scope_of outside' false f.gives)
     begins = record {
       outside = c;
+      plain = refl;
+      plain_too = refl;
       locals = refl;
       cells = λ x. tt;
       told = record { same = λ x. refl; choice = refl };
@@ -234,7 +249,7 @@ module _ (permits : ℕ → Bool) (ρs κs : Provenance → Bytes → Bytes) (o 
     merged_returning p g =
         let whole = joined (merged h.tree) (zero_at p) in
         let same : entered merged_scope whole ≡ entered merged_scope (merged h.tree) =
-        ap (λ (es : Entries). record merged_scope { ahead = es }) (zero_locals merged_scope.ahead (merged h.tree) p) in
+        ap (λ (es : Entries). record merged_scope { ahead = es; forced = None }) (zero_locals merged_scope.ahead (merged h.tree) p) in
         record {
           params = are_params_carried (scope_of outside xform f.gives) (scope_of outside' false f.gives) f.params begins h.params;
           few = few_merged;

@@ -10,15 +10,18 @@ use Rattle.c_lang.specs.declared.stmt.Dest.{Dest}
 use Rattle.c_lang.specs.declared.stmt.Kind.{Kind}
 use Rattle.c_lang.specs.declared.stmt.Kind.TheVariants.{Int, Fp}
 use Rattle.c_types.specs.Names.{Means, Cell, Array, Code, Refused, Names}
-use Rattle.c_types.specs.Scopes.{Scope, Block, names_of, kind_of_dest}
+use Rattle.c_types.specs.Scopes.{Scope, Block, names_of, kind_of_dest, Picks}
 use Rattle.c_types.specs.Expressions.{kind_of, kind_of_name, or_int, own_kind, compares_kinds, place_of}
 use Rattle.c_types.specs.Calls.{place_in, ints}
 use Rattle.c_types.specs.Statements.{scope_after, block_in, entered, after_block}
 use Rattle.c_types.specs.Typing.{IsValue, IsFunction, IsLiteral, IsTyped, AreArguments, IsCall, IsCallBy, IsReturn, IsTypedStatement, AreTyped}
 use Rattle.c_types.proofs.StatementsTyped.{array_kind}
-use Rattle.merged_types.proofs.Resolution.{name_tree, literal_tree, tree, trees, call_tree, statement_tree, list_tree}
+use Rattle.merged_types.proofs.Resolution.{name_tree, literal_tree, tree, trees, call_tree, statement_tree, list_tree, pick_tree}
 use Rattle.merged_types.proofs.ResolvedTyping.{IsVariable, IsResolved, AreResolvedArguments, IsResolvedCall, IsResolvedCallBy, IsResolvedReturn, IsResolvedStatement, AreResolved}
 use Rattle.merged_types.proofs.SameScopes.{DeclaresSame, DeclareSame, declare_nothing, declare_more, declares_if, declares_while, same_after, same_entered, same_after_block}
+use Rattle.c_types.specs.Functions.{IsPlain}
+use Rattle.c_types.proofs.FunctionLaws.{plain_after, no_force, no_pick}
+use Rattle.c_types.proofs.PlainLaws.{element_int}
 
 -- ---- kinds
 
@@ -97,7 +100,7 @@ own_int names (literal (pos zero)) h = refl
 own_int names (literal (pos (suc n))) h = refl
 own_int names (literal (negsuc n)) h = refl
 own_int names (variable x) h = value_int (names x) h
-own_int names (element a i) h = refl
+own_int names (element a i) h = element_int (names a)
 own_int names (function f) h = function_int (names f) h
 own_int names null h = absurd h
 own_int names (negation a) h = refl
@@ -120,31 +123,35 @@ ints_resolved names (suc n) (e ∷ es) h =
 -- ---- scopes
 
 call_declares : (s : Scope) (m : Means) (p : Pos) (d : Dest) (f : Bytes) (es : List Expression) → DeclaresSame (call_tree s m p d f es) (call p d f es)
-call_declares s (Cell k) p d f es = record { dest = refl; told = λ e. refl }
-call_declares s (Code params gives value denied) p d f es = record { dest = refl; told = λ e. refl }
-call_declares s Array p d f es = record { dest = refl; told = λ e. refl }
-call_declares s (Refused n) p d f es = record { dest = refl; told = λ e. refl }
+call_declares s (Cell k) p d f es = record { force = refl; dest = refl; told = λ e. refl }
+call_declares s (Code params gives value denied) p d f es = record { force = refl; dest = refl; told = λ e. refl }
+call_declares s Array p d f es = record { force = refl; dest = refl; told = λ e. refl }
+call_declares s (Refused n) p d f es = record { force = refl; dest = refl; told = λ e. refl }
+
+pick_declares : (p : Pos) (s : Scope) (o : Option Picks) (a b : Statement) → DeclaresSame (pick_tree p s o a b) (pick p a b)
+pick_declares p s None a b = record { force = refl; dest = refl; told = λ e. refl }
+pick_declares p s (Some names) a b = record { force = refl; dest = refl; told = λ e. refl }
 
 mutual
   tree_declares : (s : Scope) (t : Statement) → DeclaresSame (statement_tree s t) t
-  tree_declares s (skip p) = record { dest = refl; told = λ e. refl }
-  tree_declares s (set p d e) = record { dest = refl; told = λ e. refl }
-  tree_declares s (set_element p a i e) = record { dest = refl; told = λ e. refl }
+  tree_declares s (skip p) = record { force = refl; dest = refl; told = λ e. refl }
+  tree_declares s (set p d e) = record { force = refl; dest = refl; told = λ e. refl }
+  tree_declares s (set_element p a i e) = record { force = refl; dest = refl; told = λ e. refl }
   tree_declares s (call p d f es) = call_declares s (names_of s f) p d f es
-  tree_declares s (call_by p d x es) = record { dest = refl; told = λ e. refl }
+  tree_declares s (call_by p d x es) = record { force = refl; dest = refl; told = λ e. refl }
   tree_declares s (if_else p c xs ys) =
       declares_if p p (tree (names_of s) Int c) c (list_tree (entered s xs) xs) (list_tree (entered (after_block s xs) ys) ys) xs ys
       (trees_declare (entered s xs) xs) (trees_declare (entered (after_block s xs) ys) ys)
   tree_declares s (while_loop p c xs) = declares_while p p (tree (names_of s) Int c) c (list_tree (entered s xs) xs) xs (trees_declare (entered s xs) xs)
-  tree_declares s (break_loop p) = record { dest = refl; told = λ e. refl }
-  tree_declares s (return_with p e) = record { dest = refl; told = λ e. refl }
-  tree_declares s (assert_that p e) = record { dest = refl; told = λ e. refl }
-  tree_declares s (input p d) = record { dest = refl; told = λ e. refl }
-  tree_declares s (output p e) = record { dest = refl; told = λ e. refl }
-  tree_declares s (point p k) = record { dest = refl; told = λ e. refl }
-  tree_declares s (choice p d k) = record { dest = refl; told = λ e. refl }
-  tree_declares s (force p) = record { dest = refl; told = λ e. refl }
-  tree_declares s (pick p a b) = record { dest = refl; told = λ e. refl }
+  tree_declares s (break_loop p) = record { force = refl; dest = refl; told = λ e. refl }
+  tree_declares s (return_with p e) = record { force = refl; dest = refl; told = λ e. refl }
+  tree_declares s (assert_that p e) = record { force = refl; dest = refl; told = λ e. refl }
+  tree_declares s (input p d) = record { force = refl; dest = refl; told = λ e. refl }
+  tree_declares s (output p e) = record { force = refl; dest = refl; told = λ e. refl }
+  tree_declares s (point p k) = record { force = refl; dest = refl; told = λ e. refl }
+  tree_declares s (choice p d k) = record { force = refl; dest = refl; told = λ e. refl }
+  tree_declares s (force p) = record { force = refl; dest = refl; told = λ e. refl }
+  tree_declares s (pick p a b) = pick_declares p s s.picks a b
 
   pub trees_declare : (s : Scope) (ts : Statements) → DeclareSame (list_tree s ts) ts
   trees_declare s none = declare_nothing
@@ -177,49 +184,49 @@ return_resolved names true (Some e) h = expression_resolved names Int e h
 return_resolved names false (Some e) h = absurd h
 
 mutual
-  pub statement_resolved : (b : Block) (s : Scope) (t : Statement) → IsTypedStatement b s t → IsResolvedStatement b s (statement_tree s t)
-  statement_resolved b s (skip p) h = tt
-  statement_resolved b s (set p d e) h =
+  pub statement_resolved : (b : Block) (s : Scope) (t : Statement) → IsPlain s → IsTypedStatement b s t → IsResolvedStatement b s (statement_tree s t)
+  statement_resolved b s (skip p) plain h = tt
+  statement_resolved b s (set p d e) plain h =
       let k = place_in s d e in
       let same : place_in s d (tree (names_of s) k e) ≡ k = ap (λ (o : Option Kind). or_int (option_or (kind_of_dest s d) o)) (kind_tree (names_of s) k e h.1) in
       (h.0, subst (λ (l : Kind). IsResolved (names_of s) l (tree (names_of s) k e)) (sym same) (expression_resolved (names_of s) k e h.1))
-  statement_resolved b s (set_element p a i e) h = (
+  statement_resolved b s (set_element p a i e) plain h = (
     h.0,
     expression_resolved (names_of s) Int i h.1,
     subst (λ (k : Kind). IsResolved (names_of s) Int (tree (names_of s) k e)) (sym (array_kind (names_of s) (names_of s a) e h.0)) (expression_resolved (names_of s) Int e h.2),
   )
-  statement_resolved b s (call p d f es) h = call_resolved b s (names_of s f) p d f es refl h h.1
-  statement_resolved b s (call_by p d x es) h = (h.0, call_by_resolved s (names_of s x) d es h.1)
-  statement_resolved b s (if_else p c xs ys) h =
+  statement_resolved b s (call p d f es) plain h = call_resolved b s (names_of s f) p d f es refl h h.1
+  statement_resolved b s (call_by p d x es) plain h = (h.0, call_by_resolved s (names_of s x) d es h.1)
+  statement_resolved b s (if_else p c xs ys) plain h =
       let vs = list_tree (entered s xs) xs in
       let first : DeclareSame vs xs = trees_declare (entered s xs) xs in
       let ws = list_tree (entered (after_block s xs) ys) ys in
       let second : DeclareSame ws ys = trees_declare (entered (after_block s xs) ys) ys in (
         expression_resolved (names_of s) Int c h.0,
-        subst (λ (t : Scope). AreResolved (block_in s) t vs) (sym (same_entered vs xs first s)) (list_resolved (block_in s) (entered s xs) xs h.1),
+        subst (λ (t : Scope). AreResolved (block_in s) t vs) (sym (same_entered vs xs first s)) (list_resolved (block_in s) (entered s xs) xs (refl, plain.1) h.1),
         subst (λ (t : Scope). AreResolved (block_in s) t ws) (sym (ap (λ (t : Scope). entered t ws) (same_after_block vs xs first s) ∙ same_entered ws ys second (after_block s xs)))
-            (list_resolved (block_in s) (entered (after_block s xs) ys) ys h.2),
+            (list_resolved (block_in s) (entered (after_block s xs) ys) ys (refl, plain.1) h.2),
       )
-  statement_resolved b s (while_loop p c xs) h =
+  statement_resolved b s (while_loop p c xs) plain h =
       let vs = list_tree (entered s xs) xs in
       let first : DeclareSame vs xs = trees_declare (entered s xs) xs in (
         expression_resolved (names_of s) Int c h.0,
-        subst (λ (t : Scope). AreResolved (block_in s) t vs) (sym (same_entered vs xs first s)) (list_resolved (block_in s) (entered s xs) xs h.1),
+        subst (λ (t : Scope). AreResolved (block_in s) t vs) (sym (same_entered vs xs first s)) (list_resolved (block_in s) (entered s xs) xs (refl, plain.1) h.1),
       )
-  statement_resolved b s (break_loop p) h = tt
-  statement_resolved b s (return_with p e) h = return_resolved (names_of s) s.gives e h
-  statement_resolved b s (assert_that p e) h = expression_resolved (names_of s) Int e h
-  statement_resolved b s (input p d) h = h
-  statement_resolved b s (output p e) h = (h.0, expression_resolved (names_of s) Int e h.1)
-  statement_resolved b s (point p k) h = h
-  statement_resolved b s (choice p d k) h = h
-  statement_resolved b s (force p) h = absurd h
-  statement_resolved b s (pick p x y) h = absurd h
+  statement_resolved b s (break_loop p) plain h = tt
+  statement_resolved b s (return_with p e) plain h = return_resolved (names_of s) s.gives e h
+  statement_resolved b s (assert_that p e) plain h = expression_resolved (names_of s) Int e h
+  statement_resolved b s (input p d) plain h = h
+  statement_resolved b s (output p e) plain h = (h.0, expression_resolved (names_of s) Int e h.1)
+  statement_resolved b s (point p k) plain h = h
+  statement_resolved b s (choice p d k) plain h = h
+  statement_resolved b s (force p) plain h = absurd (no_force s plain h)
+  statement_resolved b s (pick p x y) plain h = absurd (no_pick b s x y plain h)
 
-  pub list_resolved : (b : Block) (s : Scope) (ts : Statements) → AreTyped b s ts → AreResolved b s (list_tree s ts)
-  list_resolved b s none h = tt
-  list_resolved b s (more t ts) h = (
-    statement_resolved b s t h.0,
+  pub list_resolved : (b : Block) (s : Scope) (ts : Statements) → IsPlain s → AreTyped b s ts → AreResolved b s (list_tree s ts)
+  list_resolved b s none plain h = tt
+  list_resolved b s (more t ts) plain h = (
+    statement_resolved b s t plain h.0,
     subst (λ (u : Scope). AreResolved b u (list_tree (scope_after s t) ts)) (sym (same_after (statement_tree s t) t s (tree_declares s t)))
-        (list_resolved b (scope_after s t) ts h.1),
+        (list_resolved b (scope_after s t) ts (plain_after s t plain) h.1),
   )
