@@ -7,3 +7,4 @@ pub mod StatementsTyped
 pub mod ProgramsTyped
 pub mod PlainLaws
 pub mod ArgumentLaws
+pub mod BesideLaws

@@ -8,6 +8,7 @@ pub mod Endings
 pub mod Statements
 pub mod Functions
 pub mod Programs
+pub mod Beside
 pub mod Kept
 pub mod Typing
 pub mod Types

@@ -2,6 +2,7 @@
 //! names resolved, or the first refusal.
 #![tactic(auto)]
 
+pub mod beside;
 pub mod calls;
 mod clients;
 pub mod declarations;

@@ -13,11 +13,11 @@ use Rattle.c_types.specs.Plain.{PlainProgram, plain_func, built_func, plain}
 use Rattle.c_types.specs.Programs.{with_func, with_globals, outside_of, resolved_program}
 use Rattle.c_types.specs.Types.{AreTypedFuncs}
 use Rattle.c_types.proofs.PlainLaws.{plain_resolved_program}
-use Rattle.version_names.specs.Parts.{part_of}
+use Rattle.version_names.specs.Parts.{Parts, part_of}
 use Rattle.state_xform.specs.Kept.{IsTransformerOf}
 use Rattle.state_xform.specs.Refusals.{resolved_transformer}
 use Rattle.state_xform.specs.Transformers.{AreOwnFuncs}
-use Rattle.state_xform.specs.Visible.{Parts, visible}
+use Rattle.state_xform.specs.Visible.{visible}
 use Rattle.update_semantics.specs.UpdatingRun as run
 use Rattle.update_semantics.specs.UpdatingRun.{Specification}
 use Rattle.update_semantics.specs.Worlds.{World, IsWorld, world_of}

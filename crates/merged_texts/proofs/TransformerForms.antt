@@ -7,10 +7,10 @@ use Rattle.c_types.specs.Names.{Entries}
 use Rattle.c_types.specs.Plain.{plain_func, plain_program}
 use Rattle.c_types.specs.Programs.{with_func, resolved_funcs}
 use Rattle.c_types.proofs.PlainLaws.{plain_func_resolved}
-use Rattle.version_names.specs.Parts.{part_of}
+use Rattle.version_names.specs.Parts.{Parts, part_of}
 use Rattle.state_xform.specs.Refusals.{resolved_transformer}
 use Rattle.state_xform.specs.Transformers.{AreOwnFuncs, IsTransformer}
-use Rattle.state_xform.specs.Visible.{Parts, visible}
+use Rattle.state_xform.specs.Visible.{visible}
 
 own_resolved : (parts : Parts) (outside seen : Entries) (fs : List Func) → AreOwnFuncs parts outside seen fs → map plain_func (resolved_funcs outside true fs) ≡ map plain_func fs
 own_resolved parts outside seen [] h = refl

@@ -20,7 +20,7 @@ use Rattle.version_names.specs.Version as version
 use Rattle.version_names.specs.Home.{Home, Linked, same_home}
 use Rattle.version_names.specs.Home as home
 use Rattle.version_names.specs.Provenance as origin
-use Rattle.version_names.specs.Parts.{part_at, part_of}
+use Rattle.version_names.specs.Parts.{Parts, part_at, part_of}
 use Rattle.version_names.specs.declared.part.Origin.TheVariants as prefix
 use Rattle.version_names.specs.declared.part.Version.{Version}
 use Rattle.version_names.specs.declared.part.Version.TheVariants as v
@@ -29,7 +29,8 @@ use Rattle.version_names.specs.declared.part.Part.TheVariants as part
 use Rattle.version_names.specs.declared.part.Sort2.{Sort2}
 use Rattle.version_names.specs.declared.part.Sort2.TheVariants as sort
 use Rattle.update_semantics.specs.UpdatingRun.{World, linked_by_prefix}
-use Rattle.state_xform.specs.Visible.{Parts, own_func, with_own_funcs, version_func, with_cells, with_codes, visible}
+use Rattle.state_xform.specs.Visible.{version_func, with_cells, with_codes, visible}
+use Rattle.c_types.specs.Beside.{own_func, with_own_funcs}
 use Rattle.state_xform.specs.Transformers.{AreOwnFuncs}
 use Rattle.merged_program.specs.Names.{cell_name, code_name, variable_name, function_name}
 use Rattle.merged_program.specs.Programs.{xform_func}
@@ -157,7 +158,7 @@ module _ (W : World) (p : Program) (h : SeesVersions W p) where
 
   -- ---- the transformer's own functions
 
-  own_entry : (f : Func) → func_named p.funcs f.name ≡ Some f → IsEntry f.name (Some (own_func f))
+  own_entry : (f : Func) → func_named p.funcs f.name ≡ Some f → IsEntry f.name (Some (own_func None f))
   own_entry f e =
       let there : func_named W.xform.funcs f.name ≡ Some (resolved_func seen true f) =
       ap (λ (find : Bytes → Option Func). find f.name) own_means ∙ resolved_named seen true p.funcs f.name ∙ ap (option_map (resolved_func seen true)) e in
@@ -172,7 +173,7 @@ module _ (W : World) (p : Program) (h : SeesVersions W p) where
         ),
       )
 
-  own_entries : (fs : List Func) → Each (IsOwn [] p.funcs) fs → Each (λ (f : Func). IsEntry f.name (Some (own_func f))) fs
+  own_entries : (fs : List Func) → Each (IsOwn [] p.funcs) fs → Each (λ (f : Func). IsEntry f.name (Some (own_func None f))) fs
   own_entries [] k = tt
   own_entries (f ∷ fs) k = (own_entry f (owned [] p.funcs f k.0).1, own_entries fs k.1)
 
@@ -275,7 +276,7 @@ module _ (W : World) (p : Program) (h : SeesVersions W p) where
       (new_code_part f (no_global W.second.globals f.name own.0) own.1, new_code_parts fs k.1)
 
   abbrev own_names : Entries
-  own_names = with_own_funcs (with_globals [] p.globals) p.funcs
+  own_names = with_own_funcs None (with_globals [] p.globals) p.funcs
 
   abbrev with_old_cells : Entries
   with_old_cells = with_cells parts v.Old own_names W.first.globals

@@ -17,7 +17,9 @@ use Rattle.version_names.specs.declared.part.Version.{Version}
 use Rattle.version_names.specs.declared.part.Part.{Part}
 use Rattle.version_names.specs.declared.part.Part.TheVariants.{Both, Old, New}
 use Rattle.version_names.specs.declared.part.Sort2.TheVariants as sort
-use Rattle.state_xform.specs.Visible.{Parts, own_func, with_own_funcs, version_func, with_prefixed, with_part, with_cells, with_codes}
+use Rattle.state_xform.specs.Visible.{version_func, with_prefixed, with_part, with_cells, with_codes}
+use Rattle.c_types.specs.Beside.{own_func, with_own_funcs}
+use Rattle.version_names.specs.Parts.{Parts}
 use Rattle.merged_program.proofs.MergedNames.{by_bool, same_names}
 use Rattle.merged_program.proofs.AddedNames.{one, found_added, added_none}
 use Rattle.merged_types.proofs.Carrying.{IsKeptCell, IsKeptCode}
@@ -100,9 +102,9 @@ module _ (ρ κ : Bytes → Bytes) (outside : Entries) where
   kept_part (Some New) es x m h k = kept_prefixed prefix.New es x m h k
   kept_part None es x m h k = h
 
-  pub kept_own : (es : Entries) (fs : List Func) → AllKept es → Each (λ (f : Func). IsKeptEntry f.name (Some (own_func f))) fs → AllKept (with_own_funcs es fs)
+  pub kept_own : (es : Entries) (fs : List Func) → AllKept es → Each (λ (f : Func). IsKeptEntry f.name (Some (own_func None f))) fs → AllKept (with_own_funcs None es fs)
   kept_own es [] h k = h
-  kept_own es (f ∷ fs) h k = kept_own (added es f.name (own_func f)) fs (kept_added es f.name (own_func f) h k.0) k.1
+  kept_own es (f ∷ fs) h k = kept_own (added es f.name (own_func None f)) fs (kept_added es f.name (own_func None f) h k.0) k.1
 
   module _ (parts : Parts) (v : Version) where
     pub kept_cells : (es : Entries) (gs : List GlobalVar) → AllKept es → Each (λ (g : GlobalVar). IsKeptPart (parts v sort.Cell g.name) g.name (means_of_shape g.shape)) gs

@@ -23,55 +23,35 @@ use Rattle.c_lang.specs.Limits.{cell_limit}
 use Rattle.c_lang.specs.Refusals as numbers
 use Rattle.c_types.proofs.Combined.{some_none, both_none, first_none, none_first, at_none, test_false, not_some, either_false}
 use Rattle.version_names.specs.Merged.{merged_name}
-use Rattle.version_names.specs.Parts.{part_at, part_of, is_changed_cell, IsLinked}
+use Rattle.version_names.specs.Parts.{Parts, parts_in, in_version, part_at, part_of, is_changed_cell, IsLinked}
 use Rattle.version_names.specs.declared.links.Links.{Links}
 use Rattle.version_names.specs.declared.part.Origin.TheVariants as origin
 use Rattle.version_names.specs.declared.part.Version.{Version}
 use Rattle.version_names.specs.declared.part.Version.TheVariants as version
 use Rattle.version_names.specs.declared.part.Sort2.{Sort2}
 use Rattle.version_names.specs.declared.part.Sort2.TheVariants as sort
-use Rattle.state_xform.specs.Refusals.{refusal_of_first, in_version, wrong_own_name, is_old, is_new, refusal_of_own, is_changed, not_covered, refusal_of_coverage, refusal_of_started, refusal_of_whole, no_start, refusal_of_declarations, first_refusal, resolved_transformer}
+use Rattle.state_xform.specs.Refusals.{wrong_own_name, is_old, is_new, refusal_of_own, is_changed, not_covered, refusal_of_coverage, refusal_of_started, refusal_of_whole, no_start, first_refusal, resolved_transformer}
 use Rattle.state_xform.specs.Transformers.{IsOwnName, AreOwnFuncs, start_name, is_start, is_covered, changed_globals, IsTransformer}
 use Rattle.state_xform.specs.Kept.{IsChecked}
-use Rattle.state_xform.specs.Visible.{Parts, parts_in, visible}
+use Rattle.state_xform.specs.Visible.{visible}
+use Rattle.c_types.specs.Beside.{refusal_of_declarations}
+use Rattle.c_types.proofs.BesideLaws.{declarations_sound, declarations_complete}
+use Rattle.version_names.proofs.PartLaws.{nowhere, no_version}
 use Rattle.c_types.proofs.ProgramsTyped.{protos_sound, protos_complete, func_sound, func_complete, early_sound}
-
--- ---- globals
-
-no_globals : (early : List Refusal) (outside : Entries) (gs : List GlobalVar) → refusal_of_first early outside gs ≡ None → gs ≡ []
-no_globals early outside [] h = refl
-no_globals early outside (g ∷ gs) h =
-    let alone = wrong_global early outside [] (cell_limit unit.Xform) g in
-    absurd (some_none numbers.transformer_effect (both_none (Some numbers.transformer_effect) alone (at_none (smaller (Some numbers.transformer_effect) alone) g.pos h)).0)
 
 -- ---- functions
 
 module _ (parts : Parts) where
-  abbrev stands : Version → Sort2 → Bytes → Bool
-  stands v s x = is_some (parts v s x)
-
-  nowhere : (x : Bytes) → in_version parts x ≡ false → (v : Version) (s : Sort2) → parts v s x ≡ None
-  nowhere x h = by
-    where
-      old : ((stands version.Old sort.Cell x || stands version.Old sort.Code x) ≡ false) × (stands version.New sort.Cell x ≡ false)
-      old = either_false _ _ (either_false ((stands version.Old sort.Cell x || stands version.Old sort.Code x) || stands version.New sort.Cell x) (stands version.New sort.Code x) h).0
-
-      by : (v : Version) (s : Sort2) → parts v s x ≡ None
-      by version.Old sort.Cell = not_some _ (either_false (stands version.Old sort.Cell x) (stands version.Old sort.Code x) old.0).0
-      by version.Old sort.Code = not_some _ (either_false (stands version.Old sort.Cell x) (stands version.Old sort.Code x) old.0).1
-      by version.New sort.Cell = not_some _ old.1
-      by version.New sort.Code = not_some _ (either_false ((stands version.Old sort.Cell x || stands version.Old sort.Code x) || stands version.New sort.Cell x) (stands version.New sort.Code x) h).1
-
   name_sound : (seen : Entries) (x : Bytes) → wrong_own_name parts seen x ≡ None → IsOwnName parts seen x
   name_sound seen x h =
       let t = test_false ((is_some (found seen x) || in_version parts x) || names_version x) numbers.duplicate h in
       let p = either_false (is_some (found seen x) || in_version parts x) (names_version x) t in
       let q = either_false (is_some (found seen x)) (in_version parts x) p.0 in
-      record { new = not_some (found seen x) q.0; free = nowhere x q.1; plain = p.1 }
+      record { new = not_some (found seen x) q.0; free = nowhere parts x q.1; plain = p.1 }
 
   name_complete : (seen : Entries) (x : Bytes) → IsOwnName parts seen x → wrong_own_name parts seen x ≡ None
   name_complete seen x h =
-      rw (h.new, h.free version.Old sort.Cell, h.free version.Old sort.Code, h.free version.New sort.Cell, h.free version.New sort.Code, h.plain) refl
+      rw (h.new, no_version parts x h.free, h.plain) refl
 
   own_sound : (outside seen : Entries) (fs : List Func) → refusal_of_own parts outside seen fs ≡ None → AreOwnFuncs parts outside seen fs
   own_sound outside seen [] h = tt
@@ -180,13 +160,13 @@ module _ (first second p : Program) where
       let outside = visible parts first second p in
       let own = refusal_of_own parts outside [] p.funcs in
       let whole = refusal_of_whole parts second p (func_named p.funcs start_name) in
-      let a = first_none (refusal_of_declarations outside p) (or_then own whole) h in
+      let a = first_none (refusal_of_declarations numbers.transformer_effect unit.Xform outside p) (or_then own whole) h in
       let b = first_none own whole a.1 in
-      let c = first_none (refusal_of_first p.early outside p.globals) (refusal_of_protos (with_funcs [] p.funcs) p.protos) a.0 in
+      let c = declarations_sound numbers.transformer_effect unit.Xform outside p a.0 in
       let d = whole_sound (func_named p.funcs start_name) b.1 in
       record {
-        globals = no_globals p.early outside p.globals c.0;
-        protos = protos_sound (with_funcs [] p.funcs) p.protos c.1;
+        globals = c.0;
+        protos = c.1;
         funcs = own_sound parts outside [] p.funcs b.0;
         start = d.0;
         early = d.1;
@@ -196,7 +176,7 @@ module _ (first second p : Program) where
   pub not_refused : IsTransformer first second p → first_refusal parts first second p ≡ None
   not_refused h =
       let outside = visible parts first second p in
-      none_first _ _ (none_first _ _ (rw h.globals refl) (protos_complete (with_funcs [] p.funcs) p.protos h.protos))
+      none_first _ _ (declarations_complete numbers.transformer_effect unit.Xform outside p h.globals h.protos)
       (none_first _ _ (own_complete parts outside [] p.funcs h.funcs) (whole_complete (func_named p.funcs start_name) h.start h.early h.covers))
 
 -- ---- what a check answers

@@ -25,22 +25,11 @@ use Rattle.version_names.specs.declared.part.Part.{Part}
 use Rattle.version_names.specs.declared.part.Part.TheVariants.{Old, New}
 use Rattle.version_names.specs.declared.part.Sort2.TheVariants as sort
 use Rattle.state_xform.specs.Transformers.{start_name, is_start, is_covered}
-use Rattle.state_xform.specs.Visible.{Parts, visible}
-
--- ---- globals
-
--- 19 for the first global, unless a smaller number refuses the same declaration
-abbrev pub refusal_of_first : List Refusal → Entries → List GlobalVar → Option Refusal
-refusal_of_first early outside [] = None
-refusal_of_first early outside (g ∷ gs) =
-    at_place (smaller (Some refused.transformer_effect) (wrong_global early outside [] (cell_limit unit.Xform) g)) g.pos
+use Rattle.version_names.specs.Parts.{Parts, in_version}
+use Rattle.c_types.specs.Beside.{refusal_of_declarations}
+use Rattle.state_xform.specs.Visible.{visible}
 
 -- ---- functions
-
-abbrev pub in_version : Parts → Bytes → Bool
-in_version parts x =
-    is_some (parts version.Old sort.Cell x) || is_some (parts version.Old sort.Code x)
-    || is_some (parts version.New sort.Cell x) || is_some (parts version.New sort.Code x)
 
 -- 7 where the name isn't the transformer's own
 abbrev pub wrong_own_name : Parts → Entries → Bytes → Option ℕ
@@ -92,13 +81,10 @@ abbrev pub refusal_of_whole : Parts → Program → Program → Option Func → 
 refusal_of_whole parts second p None = Some no_start
 refusal_of_whole parts second p (Some start) = refusal_of_started parts second p start
 
-abbrev pub refusal_of_declarations : Entries → Program → Option Refusal
-refusal_of_declarations outside p = first (refusal_of_first p.early outside p.globals) (refusal_of_protos (with_funcs [] p.funcs) p.protos)
-
 abbrev pub first_refusal : Parts → Program → Program → Program → Option Refusal
 first_refusal parts old second p =
     let outside = visible parts old second p in
-    first (refusal_of_declarations outside p)
+    first (refusal_of_declarations refused.transformer_effect unit.Xform outside p)
     (first (refusal_of_own parts outside [] p.funcs) (refusal_of_whole parts second p (func_named p.funcs start_name)))
 
 -- names stay as they are written

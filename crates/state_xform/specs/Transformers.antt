@@ -15,12 +15,12 @@ use Rattle.c_types.specs.Scopes.{names_version}
 use Rattle.c_types.specs.Programs.{with_func, with_funcs, is_empty}
 use Rattle.c_types.specs.Types.{AreTypedProtos, IsTypedFunc}
 use Rattle.version_names.specs.Merged.{merged_name}
-use Rattle.version_names.specs.Parts.{part_of, is_changed_cell}
+use Rattle.version_names.specs.Parts.{Parts, part_of, is_changed_cell}
 use Rattle.version_names.specs.declared.part.Origin.TheVariants.{New}
 use Rattle.version_names.specs.declared.part.Version.{Version}
 use Rattle.version_names.specs.declared.part.Sort2.{Sort2}
 use Rattle.state_xform.specs.Paths.{always_set}
-use Rattle.state_xform.specs.Visible.{Parts, visible}
+use Rattle.state_xform.specs.Visible.{visible}
 use Rattle.state_xform.specs.Elements.{sets_element_in}
 
 -- ---- functions

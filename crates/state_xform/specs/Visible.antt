@@ -8,7 +8,7 @@ use Rattle.c_lang.specs.declared.program.Func.{Func}
 use Rattle.c_lang.specs.declared.program.Program.{Program}
 use Rattle.c_types.specs.Names.{Means, Code, Refused, Entries, added}
 use Rattle.c_types.specs.Functions.{kinds_of, arity_as_value}
-use Rattle.c_types.specs.Programs.{means_of_shape, with_globals}
+use Rattle.c_types.specs.Programs.{means_of_shape}
 use Rattle.version_names.specs.Merged.{merged_name}
 use Rattle.version_names.specs.declared.part.Origin.{Origin}
 use Rattle.version_names.specs.declared.part.Origin.TheVariants as origin
@@ -19,26 +19,9 @@ use Rattle.version_names.specs.declared.part.Part.TheVariants.{Both, Old, New}
 use Rattle.version_names.specs.declared.part.Sort2.{Sort2}
 use Rattle.version_names.specs.declared.part.Sort2.TheVariants as sort
 use Rattle.version_names.specs.declared.links.Links.{Links}
-use Rattle.version_names.specs.Parts.{part_by, entries_of}
 use Rattle.version_names.specs.Code.Tables as tables
-
--- where each name of a version stands
-abbrev pub Parts : Type 0
-Parts = Version → Sort2 → Bytes → Option Part
-
--- where links say that it stands
-abbrev pub parts_in : Links → Parts
-parts_in links v s x = part_by v (tables.found (entries_of links s) x)
-
--- ---- the unit's own
-
--- an own function may be called, and its name is no value
-abbrev pub own_func : Func → Means
-own_func f = Code (kinds_of f.params) f.gives None None
-
-abbrev pub with_own_funcs : Entries → List Func → Entries
-with_own_funcs entries [] = entries
-with_own_funcs entries (f ∷ fs) = with_own_funcs (added entries f.name (own_func f)) fs
+use Rattle.version_names.specs.Parts.{Parts}
+use Rattle.c_types.specs.Beside.{own_names}
 
 -- ---- the versions'
 
@@ -71,8 +54,5 @@ module _ (parts : Parts) (v : Version) where
 
 -- ---- all of it
 
-abbrev pub own_names : Program → Entries
-own_names p = with_own_funcs (with_globals [] p.globals) p.funcs
-
 abbrev pub visible : Parts → Program → Program → Program → Entries
-visible parts first second p = with_version parts version.New (with_version parts version.Old (own_names p) first) second
+visible parts first second p = with_version parts version.New (with_version parts version.Old (own_names None p) first) second

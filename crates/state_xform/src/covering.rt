@@ -8,7 +8,7 @@ ghost use Rattle.c_types.specs.Checks.{Checked};
 ghost use Rattle.state_xform.specs.Code.Covered.{AreCovered};
 ghost use Rattle.state_xform.specs.Refusals as spec;
 ghost use Rattle.state_xform.specs.Transformers as transformer;
-ghost use Rattle.state_xform.specs.Visible.{parts_in};
+ghost use Rattle.version_names.specs.Parts.{parts_in};
 ghost use Rattle.version_names.specs.Merged as merged;
 ghost use Rattle.version_names.specs.declared.part.Origin.TheVariants.{New};
 

@@ -6,7 +6,7 @@ ghost use Rattle.c_types.specs.Code.SeenScopes.{seen_scope};
 ghost use Rattle.c_types.specs.Functions.{IsPlain};
 ghost use Rattle.c_types.specs.Programs.{resolved_funcs};
 ghost use Rattle.state_xform.specs.Refusals as spec;
-ghost use Rattle.state_xform.specs.Visible.{parts_in};
+ghost use Rattle.version_names.specs.Parts.{parts_in};
 
 use c_lang::{Fail, Func, Name, refusal};
 use c_types::declarations::add_func;
@@ -15,22 +15,13 @@ use c_types::scope::names_version;
 use c_types::{Scope, Symbols};
 use sqlite_items::Items;
 use std::alloc::Global;
-use version_names::{Links, Sort2, Version};
-
-fn in_version(links: &Links, name: &Name) -> bool
-    ensures { result ≡ spec.in_version (parts_in links.now) name.now }
-{
-    links.of(Version::Old, Sort2::Cell, name).is_some()
-        || links.of(Version::Old, Sort2::Code, name).is_some()
-        || links.of(Version::New, Sort2::Cell, name).is_some()
-        || links.of(Version::New, Sort2::Code, name).is_some()
-}
+use version_names::Links;
 
 #[tactic(auto, using(c_types::proofs::SymbolLaws::is_some_seen))]
 fn wrong_own_name(links: &Links, seen: &Symbols, name: &Name) -> Option<u8>
     ensures { result ≡ spec.wrong_own_name (parts_in links.now) seen.now name.now }
 {
-    if seen.find(name).is_some() || in_version(links, name) || names_version(name) {
+    if seen.find(name).is_some() || links.has(name) || names_version(name) {
         Some(refusal::DUPLICATE)
     } else {
         None

@@ -3,75 +3,23 @@
 ghost use Rattle.std.specs.Prelude.{◌≡◌, IfOk, [], true, Some, bytes_eq};
 ghost use Rattle.std.specs.Option.{option_copied};
 ghost use Rattle.c_lang.specs.Programs.{func_named};
-ghost use Rattle.c_lang.specs.declared.unit.Unit.TheVariants.{Xform};
 ghost use Rattle.c_types.specs.Checks.{Checked};
 ghost use Rattle.c_types.specs.Programs as programs;
 ghost use Rattle.state_xform.specs.Refusals as spec;
 ghost use Rattle.state_xform.specs.Transformers as transformer;
-ghost use Rattle.c_lang.specs.Limits.{cell_limit};
 ghost use Rattle.state_xform.specs.Visible as seen;
+ghost use Rattle.version_names.specs.Parts.{parts_in};
 
 use crate::covering::check_coverage;
 use crate::functions::check_funcs;
 use crate::visible::visible;
-use c_lang::{Fail, Func, GlobalVar, Name, Pos, Program, Refusal, Unit, cell_limit, refusal};
-use c_types::Symbols;
-use c_types::declarations::{check_globals, check_protos};
-use c_types::means::smaller;
+use c_lang::{Fail, Func, Name, Pos, Program, Unit, refusal};
+use c_types::beside::check_declarations;
 use c_types::programs::{has_none, stop_early};
 use c_types::simple::stop;
 use sqlite_items::Items;
-use std::alloc::{AllocError, Global};
-use std::slice;
+use std::alloc::Global;
 use version_names::Links;
-
-// The number that refuses the global, as the first one of a unit that may have globals.
-fn wrong_alone(
-    alloc: Global,
-    early: &[Refusal],
-    outside: &Symbols,
-    g: &GlobalVar,
-) -> Result<Option<u8>, AllocError>
-    ensures { IfOk result (λ number. number ≡ programs.wrong_global early.now outside.now [] (cell_limit Xform) g.now) }
-{
-    let mut before = Symbols::new(alloc);
-    let room = cell_limit(Unit::Xform) as usize;
-    match check_globals(alloc, early, outside, &mut before, room, slice::from_ref(g)) {
-        Ok(()) => Ok(None),
-        Err(Fail::Refused(why)) => Ok(Some(why.number)),
-        Err(Fail::NoMemory) => Err(AllocError),
-    }
-}
-
-// Refuses the first global.
-fn check_no_global(
-    alloc: Global,
-    early: &[Refusal],
-    outside: &Symbols,
-    globals: &[GlobalVar],
-) -> Result<(), Fail>
-    ensures { Checked result (spec.refusal_of_first early.now outside.now globals.now) tt }
-{
-    match globals {
-        [] => Ok(()),
-        [g, _others @ ..] => {
-            let number = wrong_alone(alloc, early, outside, g)?;
-            stop(smaller(Some(refusal::TRANSFORMER_EFFECT), number), g.pos)
-        }
-    }
-}
-
-fn check_declarations(alloc: Global, outside: &Symbols, program: &Program) -> Result<(), Fail>
-    ensures { Checked result (spec.refusal_of_declarations outside.now program.now) tt }
-{
-    check_no_global(
-        alloc,
-        program.early.as_slice(),
-        outside,
-        program.globals.as_slice(),
-    )?;
-    check_protos(alloc, program.funcs.as_slice(), program.protos.as_slice())
-}
 
 #[tactic(auto, unfolding(crate::specs::Transformers::start_name))]
 fn is_start_name(name: &Name) -> bool
@@ -114,7 +62,7 @@ fn check_started(
     program: &Program,
     start: &Func,
 ) -> Result<(), Fail>
-    ensures { Checked result (spec.refusal_of_started (seen.parts_in links.now) second.now program.now start.now) tt }
+    ensures { Checked result (spec.refusal_of_started (parts_in links.now) second.now program.now start.now) tt }
 {
     if !is_start(start) {
         return no_start();
@@ -130,7 +78,7 @@ fn check_whole(
     second: &Program,
     program: &Program,
 ) -> Result<(), Fail>
-    ensures { Checked result (spec.refusal_of_whole (seen.parts_in links.now) second.now program.now (func_named program.now.funcs transformer.start_name)) tt }
+    ensures { Checked result (spec.refusal_of_whole (parts_in links.now) second.now program.now (func_named program.now.funcs transformer.start_name)) tt }
 {
     match start_of(program.funcs.as_slice()) {
         Some(start) => check_started(alloc, links, second, program, start),
@@ -145,10 +93,16 @@ fn check_all(
     links: &Links,
     program: &Program,
 ) -> Result<Items<Func>, Fail>
-    ensures { Checked result (spec.first_refusal (seen.parts_in links.now) first.now second.now program.now) (programs.resolved_funcs (seen.visible (seen.parts_in links.now) first.now second.now program.now) true program.now.funcs) }
+    ensures { Checked result (spec.first_refusal (parts_in links.now) first.now second.now program.now) (programs.resolved_funcs (seen.visible (parts_in links.now) first.now second.now program.now) true program.now.funcs) }
 {
     let outside = visible(alloc, first, second, links, program)?;
-    check_declarations(alloc, &outside, program)?;
+    check_declarations(
+        alloc,
+        refusal::TRANSFORMER_EFFECT,
+        Unit::Xform,
+        &outside,
+        program,
+    )?;
     let funcs = check_funcs(alloc, outside, links, program.funcs.as_slice())?;
     check_whole(alloc, links, second, program)?;
     Ok(funcs)
@@ -163,7 +117,7 @@ pub fn check_program(
     links: &Links,
     program: Program,
 ) -> Result<Program, Fail>
-    ensures { Checked result (spec.first_refusal (seen.parts_in links.now) first.now second.now program) (spec.resolved_transformer (seen.parts_in links.now) first.now second.now program) }
+    ensures { Checked result (spec.first_refusal (parts_in links.now) first.now second.now program) (spec.resolved_transformer (parts_in links.now) first.now second.now program) }
 {
     let funcs = check_all(alloc, first, second, links, &program)?;
     let Program {

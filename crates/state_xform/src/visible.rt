@@ -3,25 +3,15 @@
 ghost use Rattle.std.specs.Prelude.{◌≡◌, IfOk, OnOk};
 ghost use Rattle.c_types.specs.Code.SeenMeans.{seen_means};
 ghost use Rattle.state_xform.specs.Visible as spec;
+ghost use Rattle.version_names.specs.Parts.{parts_in};
 
 use c_lang::{Func, GlobalVar, Name, Program, refusal};
-use c_types::declarations::{means_of_shape, outside_of};
+use c_types::beside::own_names;
+use c_types::declarations::means_of_shape;
 use c_types::functions::{arity_as_value, kinds_of};
 use c_types::{Means, Symbols};
 use std::alloc::{AllocError, Global};
 use version_names::{Links, Origin, Part, Sort2, Version, merged_name};
-
-// An own function may be called, and its name is no value.
-fn own_func(alloc: Global, f: &Func) -> Result<Means, AllocError>
-    ensures { IfOk result (λ means. seen_means means ≡ spec.own_func f.now) }
-{
-    Ok(Means::Code {
-        params: kinds_of(alloc, f.params.as_slice())?,
-        gives: f.gives,
-        value: None,
-        denied: None,
-    })
-}
 
 // The name of a version's function is a value as it is there, and 19 refuses a call.
 fn version_func(alloc: Global, f: &Func) -> Result<Means, AllocError>
@@ -35,16 +25,6 @@ fn version_func(alloc: Global, f: &Func) -> Result<Means, AllocError>
         value,
         denied: Some(refusal::TRANSFORMER_EFFECT),
     })
-}
-
-fn add_own_funcs(alloc: Global, symbols: &mut Symbols, funcs: &[Func]) -> Result<(), AllocError>
-    ensures { OnOk result (symbols.new ≡ spec.with_own_funcs symbols.old funcs.now) }
-{
-    for f in funcs {
-        let means = own_func(alloc, f)?;
-        symbols.add(f.name.copy(alloc)?, means)?;
-    }
-    Ok(())
 }
 
 fn add_prefixed(
@@ -84,7 +64,7 @@ fn add_cells(
     version: Version,
     globals: &[GlobalVar],
 ) -> Result<(), AllocError>
-    ensures { OnOk result (symbols.new ≡ spec.with_cells (spec.parts_in links.now) version symbols.old globals.now) }
+    ensures { OnOk result (symbols.new ≡ spec.with_cells (parts_in links.now) version symbols.old globals.now) }
 {
     for g in globals {
         let part = links.of(version, Sort2::Cell, &g.name);
@@ -100,7 +80,7 @@ fn add_codes(
     version: Version,
     funcs: &[Func],
 ) -> Result<(), AllocError>
-    ensures { OnOk result (symbols.new ≡ spec.with_codes (spec.parts_in links.now) version symbols.old funcs.now) }
+    ensures { OnOk result (symbols.new ≡ spec.with_codes (parts_in links.now) version symbols.old funcs.now) }
 {
     for f in funcs {
         let part = links.of(version, Sort2::Code, &f.name);
@@ -117,7 +97,7 @@ fn add_version(
     version: Version,
     program: &Program,
 ) -> Result<(), AllocError>
-    ensures { OnOk result (symbols.new ≡ spec.with_version (spec.parts_in links.now) version symbols.old program.now) }
+    ensures { OnOk result (symbols.new ≡ spec.with_version (parts_in links.now) version symbols.old program.now) }
 {
     add_cells(alloc, symbols, links, version, program.globals.as_slice())?;
     add_codes(alloc, symbols, links, version, program.funcs.as_slice())
@@ -132,10 +112,9 @@ pub fn visible(
     links: &Links,
     program: &Program,
 ) -> Result<Symbols, AllocError>
-    ensures { IfOk result (λ symbols. symbols ≡ spec.visible (spec.parts_in links.now) first.now second.now program.now) }
+    ensures { IfOk result (λ symbols. symbols ≡ spec.visible (parts_in links.now) first.now second.now program.now) }
 {
-    let mut symbols = outside_of(alloc, program.globals.as_slice(), &[])?;
-    add_own_funcs(alloc, &mut symbols, program.funcs.as_slice())?;
+    let mut symbols = own_names(alloc, None, program)?;
     add_version(alloc, &mut symbols, links, Version::Old, first)?;
     add_version(alloc, &mut symbols, links, Version::New, second)?;
     Ok(symbols)

@@ -1,3 +1,4 @@
 mod TableLaws
 mod StatusLaws
 mod MergedLaws
+pub mod PartLaws

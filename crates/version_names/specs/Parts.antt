@@ -1,5 +1,5 @@
 -- Where a version's names stand, and which globals changed.
-use Rattle.std.specs.Prelude.{◌≡◌, Bool, true, false, not, ◌&&◌, if◌then◌else◌, List, [], ◌∷◌, Option, Some, None, is_some}
+use Rattle.std.specs.Prelude.{◌≡◌, Bool, true, false, not, ◌&&◌, ◌||◌, if◌then◌else◌, List, [], ◌∷◌, Option, Some, None, is_some}
 use Rattle.c_lang.specs.Names.{Bytes}
 use Rattle.version_names.specs.Version as version
 use Rattle.version_names.specs.Home.{Home, Both, Old, New, Xform, Client, Unlinked}
@@ -35,6 +35,15 @@ part_at Unlinked = None
 abbrev pub part_of : Program → Program → Version → Sort2 → Bytes → Option Part
 part_of first second v Cell x = part_at (cell_part first second (version_of v) x)
 part_of first second v Code f = part_at (code_part first second (version_of v) f)
+
+-- where each name of a version stands
+abbrev pub Parts : Type 0
+Parts = Version → Sort2 → Bytes → Option Part
+
+-- a version has the name, as a global or as a function
+abbrev pub in_version : Parts → Bytes → Bool
+in_version parts x =
+    is_some (parts v.Old Cell x) || is_some (parts v.Old Code x) || is_some (parts v.New Cell x) || is_some (parts v.New Code x)
 
 -- both versions have it as a global, and not alike
 abbrev pub is_changed_cell : Program → Program → Bytes → Bool
@@ -73,6 +82,10 @@ changed_by entries (g ∷ gs) = if is_changed (found entries g.name) then g.name
 abbrev pub entries_of : Links → Sort2 → List (Bytes × Status)
 entries_of links Cell = links.cells
 entries_of links Code = links.codes
+
+-- where links say that names stand
+abbrev pub parts_in : Links → Parts
+parts_in links v s x = part_by v (found (entries_of links s) x)
 
 -- the links of these two programs
 pub record IsLinked (first second : Program) (links : Links) : Type 0 where

@@ -43,6 +43,16 @@ impl Links {
         part_by(version, table.find(name))
     }
 
+    /// Whether a version has the name, as a global or as a function. It takes no memory.
+    pub fn has(&self, name: &Name) -> bool
+        ensures { result ≡ spec.in_version (spec.parts_in self.now) name.now }
+    {
+        self.of(Version::Old, Sort2::Cell, name).is_some()
+            || self.of(Version::Old, Sort2::Code, name).is_some()
+            || self.of(Version::New, Sort2::Cell, name).is_some()
+            || self.of(Version::New, Sort2::Code, name).is_some()
+    }
+
     /// The changed global with this number, counted from 0 in the new program's order. It takes no
     /// memory.
     pub fn changed(&self, at: usize) -> Option<&Name>

@@ -1,7 +1,7 @@
 use Rattle.std.proofs.Common.{◌≡◌, drop, List}
 use Rattle.c_lang.specs.declared.program.Func.{Func}
 use Rattle.state_xform.specs.Refusals.{refusal_of_coverage}
-use Rattle.state_xform.specs.Visible.{parts_in}
+use Rattle.version_names.specs.Parts.{parts_in}
 use Rattle.c_types.specs.Bodies.{body_of}
 use Rattle.state_xform.specs.Code.Covered.{AreCovered}
 use Rattle.state_xform.proofs.covering.check_each.Given as goal

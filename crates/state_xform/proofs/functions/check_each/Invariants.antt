@@ -3,7 +3,7 @@ use Rattle.c_types.specs.Code.SeenScopes.{seen_scope}
 use Rattle.c_types.specs.Functions.{IsPlain}
 use Rattle.c_types.specs.Programs.{resolved_funcs}
 use Rattle.state_xform.specs.Refusals as spec
-use Rattle.state_xform.specs.Visible.{parts_in}
+use Rattle.version_names.specs.Parts.{parts_in}
 use Rattle.state_xform.proofs.functions.check_each.Given as goal
 
 abbrev pub invariant-loop-f : goal.invariant-loop-f
