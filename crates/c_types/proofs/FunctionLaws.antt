@@ -7,8 +7,9 @@ use Rattle.c_lang.specs.declared.stmt.Kind.{Kind}
 use Rattle.c_types.specs.Names.{Entries}
 use Rattle.c_types.specs.Scopes.{Scope, Picks, Block}
 use Rattle.c_types.specs.Typing.{MayForce, IsPick}
-use Rattle.c_types.specs.Functions.{with_param, with_params, start_of, scope_of, IsPlain}
+use Rattle.c_types.specs.Functions.{with_param, with_params, start_of, scope_of, IsPlain, body_scope}
 use Rattle.c_types.specs.Statements.{outside_after, forced_after, outside_after_all, forced_after_all, scope_after, begun, entered, after_body, after_block, is_force}
+use Rattle.c_lang.specs.declared.program.Func.{Func}
 
 pub params_start : (s : Scope) (ps : List (Kind × Bytes)) (gives : Bool) → start_of (with_params s ps) gives ≡ start_of s gives
 params_start s [] gives = refl
@@ -69,6 +70,10 @@ plain_params s (p ∷ ps) h = plain_params (with_param s p) ps h
 
 pub plain_after : (s : Scope) (t : Statement) → IsPlain s → IsPlain (scope_after s t)
 plain_after s t h = (still_unforced s.forced t h.0, h.1)
+
+-- of a version's or a transformer's function
+pub plain_body : (outside : Entries) (xform : Bool) (f : Func) → IsPlain (body_scope outside xform f)
+plain_body outside xform f = plain_params (scope_of outside xform f.gives) f.params (refl, refl)
 
 pub no_force : (s : Scope) → IsPlain s → MayForce s.forced → ⊥
 no_force s h may = subst MayForce h.0 may

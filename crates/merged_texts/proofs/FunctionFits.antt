@@ -18,7 +18,7 @@ use Rattle.c_types.specs.Endings.{can_end}
 use Rattle.c_types.specs.Functions.{kinds_of, is_main, body_scope}
 use Rattle.c_types.specs.Names.{Entries}
 use Rattle.c_types.specs.Plain.{plain_expression, plain_statement, plain_statements, plain_func, built_func, PlainFunc}
-use Rattle.c_types.specs.Statements.{block_in, entered}
+use Rattle.c_types.specs.Statements.{block_in, entered, begun}
 use Rattle.c_types.specs.Types.{AreNarrow, IsTypedFunc}
 use Rattle.version_names.specs.Merged.{merged_name}
 use Rattle.version_names.specs.Provenance.{Provenance}
@@ -45,6 +45,7 @@ use Rattle.written_laws.proofs.Walks.{both_all}
 use Rattle.merged_texts.proofs.NameFits.{InWord, name_in_word, source_word, parameter_fits, now_fits, result_fits, main_fits, merged_fits, variable_fits, function_fits}
 use Rattle.merged_texts.proofs.SourceStatements.{IsGood, good_plain, IsPlacedWell, placed, is_good, kind_fits}
 use Rattle.merged_texts.proofs.StatementFits.{tested, small, all_read}
+use Rattle.c_types.proofs.FunctionLaws.{plain_body}
 
 -- ---- functions of sources
 
@@ -67,7 +68,7 @@ good_source u outside xform f h typed =
     record {
       name = source_word u f.name h.name;
       params = params_fit u f.params h.params typed.narrow;
-      body = both_all (IsFit u) IsPlacedWell IsGood (is_good u) (start_of f) ss h.body (placed (block_in scope) (entered scope ss) (start_of f) ss refl typed.body);
+      body = both_all (IsFit u) IsPlacedWell IsGood (is_good u) (start_of f) ss h.body (placed (block_in scope) (begun scope ss) (start_of f) ss refl (plain_body outside xform f) typed.body);
     }
 
 -- and so is its resolved form

@@ -23,6 +23,8 @@ use Rattle.written_laws.specs.SourceNames.{HasNames, HaveNames, ReturnsNames, De
 use Rattle.written_laws.specs.Walk.{Context, in_loop, past, past_all, Throughout, ThroughoutAll}
 use Rattle.written_laws.proofs.StatementFits.{IsFit, IsTarget}
 use Rattle.merged_texts.proofs.NameFits.{source_name, source_word}
+use Rattle.c_types.specs.Functions.{IsPlain}
+use Rattle.c_types.proofs.FunctionLaws.{plain_after, no_force, no_pick}
 
 -- ---- expressions
 
@@ -140,29 +142,30 @@ narrow_dest block scope (Into x) h = tt
 narrow_dest block scope (Fresh k x) h = kind_fits k h.1
 
 mutual
-  statement_placed : (block : Block) (scope : Scope) (at : Context) (s : Statement) → at.in_pick ≡ false → IsTypedStatement block scope s → Throughout IsPlacedWell at s
-  statement_placed block scope at (skip p) free h = record { free = free; declares = tt }
-  statement_placed block scope at (set p d e) free h = record { free = free; declares = narrow_dest block scope d h.0 }
-  statement_placed block scope at (set_element p a i e) free h = record { free = free; declares = tt }
-  statement_placed block scope at (call p d f es) free h = record { free = free; declares = narrow_dest block scope d h.0 }
-  statement_placed block scope at (call_by p d x es) free h = record { free = free; declares = narrow_dest block scope d h.0 }
-  statement_placed block scope at (if_else p e xs ys) free h =
-      (record { free = free; declares = tt }, placed (block_in scope) (entered scope xs) at xs free h.1, placed (block_in scope) (entered (after_block scope xs) ys) (past_all at xs) ys free h.2)
-  statement_placed block scope at (while_loop p e xs) free h =
-      (record { free = free; declares = tt }, placed (block_in scope) (entered scope xs) (in_loop at) xs free h.1)
-  statement_placed block scope at (break_loop p) free h = record { free = free; declares = tt }
-  statement_placed block scope at (return_with p e) free h = record { free = free; declares = tt }
-  statement_placed block scope at (assert_that p e) free h = record { free = free; declares = tt }
-  statement_placed block scope at (input p d) free h = record { free = free; declares = narrow_dest block scope d h.0 }
-  statement_placed block scope at (output p e) free h = record { free = free; declares = tt }
-  statement_placed block scope at (point p k) free h = record { free = free; declares = tt }
-  statement_placed block scope at (choice p d k) free h = record { free = free; declares = narrow_dest block scope d h.0 }
-  statement_placed block scope at (force p) free h = absurd h
-  statement_placed block scope at (pick p a b) free h = absurd h
+  statement_placed : (block : Block) (scope : Scope) (at : Context) (s : Statement) → at.in_pick ≡ false → IsPlain scope → IsTypedStatement block scope s → Throughout IsPlacedWell at s
+  statement_placed block scope at (skip p) free plain h = record { free = free; declares = tt }
+  statement_placed block scope at (set p d e) free plain h = record { free = free; declares = narrow_dest block scope d h.0 }
+  statement_placed block scope at (set_element p a i e) free plain h = record { free = free; declares = tt }
+  statement_placed block scope at (call p d f es) free plain h = record { free = free; declares = narrow_dest block scope d h.0 }
+  statement_placed block scope at (call_by p d x es) free plain h = record { free = free; declares = narrow_dest block scope d h.0 }
+  statement_placed block scope at (if_else p e xs ys) free plain h =
+      (record { free = free; declares = tt }, placed (block_in scope) (entered scope xs) at xs free (refl, plain.1) h.1, placed (block_in scope) (entered (after_block scope xs) ys) (past_all at xs) ys free (refl, plain.1) h.2)
+  statement_placed block scope at (while_loop p e xs) free plain h =
+      (record { free = free; declares = tt }, placed (block_in scope) (entered scope xs) (in_loop at) xs free (refl, plain.1) h.1)
+  statement_placed block scope at (break_loop p) free plain h = record { free = free; declares = tt }
+  statement_placed block scope at (return_with p e) free plain h = record { free = free; declares = tt }
+  statement_placed block scope at (assert_that p e) free plain h = record { free = free; declares = tt }
+  statement_placed block scope at (input p d) free plain h = record { free = free; declares = narrow_dest block scope d h.0 }
+  statement_placed block scope at (output p e) free plain h = record { free = free; declares = tt }
+  statement_placed block scope at (point p k) free plain h = record { free = free; declares = tt }
+  statement_placed block scope at (choice p d k) free plain h = record { free = free; declares = narrow_dest block scope d h.0 }
+  statement_placed block scope at (force p) free plain h = absurd (no_force scope plain h)
+  statement_placed block scope at (pick p a b) free plain h = absurd (no_pick block scope a b plain h)
 
-  pub placed : (block : Block) (scope : Scope) (at : Context) (ss : Statements) → at.in_pick ≡ false → AreTyped block scope ss → ThroughoutAll IsPlacedWell at ss
-  placed block scope at none free h = tt
-  placed block scope at (more s ss) free h = (statement_placed block scope at s free h.0, placed block (scope_after scope s) (past at s) ss free h.1)
+  pub placed : (block : Block) (scope : Scope) (at : Context) (ss : Statements) → at.in_pick ≡ false → IsPlain scope → AreTyped block scope ss → ThroughoutAll IsPlacedWell at ss
+  placed block scope at none free plain h = tt
+  placed block scope at (more s ss) free plain h =
+      (statement_placed block scope at s free plain h.0, placed block (scope_after scope s) (past at s) ss free (plain_after scope s plain) h.1)
 
 -- ---- what is written and typed is good
 
