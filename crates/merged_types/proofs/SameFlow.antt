@@ -1,5 +1,5 @@
 -- Resolution, plain forms and merging keep where a list of statements can end.
-use Rattle.std.proofs.Common.{◌≡◌, ℕ, Bool, true, false, not, ◌&&◌, ◌||◌, refl, ap₂}
+use Rattle.std.proofs.Common.{◌≡◌, ℕ, Bool, true, false, not, ◌&&◌, ◌||◌, Option, Some, None, refl, ap₂}
 use Rattle.std.specs.Prelude.{if◌then◌else◌}
 use Rattle.c_lang.specs.Names.{Bytes}
 use Rattle.c_lang.specs.Trees.{Expression, literal, variable, element, function, null, negation, logical_not, binary, Statement, Statements, skip, set, set_element, call, call_by, if_else, while_loop, break_loop, return_with, assert_that, input, output, point, choice, force, pick, none, more}
@@ -7,14 +7,14 @@ use Rattle.c_lang.specs.declared.unit.Pos.{Pos}
 use Rattle.c_lang.specs.declared.stmt.Dest.{Dest}
 use Rattle.c_lang.specs.declared.stmt.Kind.TheVariants.{Int}
 use Rattle.c_types.specs.Names.{Means, Cell, Array, Code, Refused}
-use Rattle.c_types.specs.Scopes.{Scope, Block, names_of}
+use Rattle.c_types.specs.Scopes.{Scope, Picks, Block, names_of}
 use Rattle.c_types.specs.Endings.{is_forever, breaks, any_breaks, ends, can_end}
 use Rattle.c_types.specs.Statements.{scope_after, block_in, entered, after_block}
 use Rattle.c_types.specs.Plain.{plain_expression, plain_statement, plain_statements}
 use Rattle.version_names.specs.Provenance.{Provenance, may_update}
 use Rattle.merged_program.specs.Expressions.{renamed}
 use Rattle.merged_program.specs.Statements.{asking, merged_statement, merged_statements}
-use Rattle.merged_types.proofs.Resolution.{name_tree, tree, call_tree, statement_tree, list_tree}
+use Rattle.merged_types.proofs.Resolution.{name_tree, tree, call_tree, pick_tree, statement_tree, list_tree}
 use Rattle.merged_types.proofs.ResolvedTyping.{IsResolvedStatement, AreResolved}
 
 record FlowsSame (a b : Statement) : Type 0 where
@@ -58,6 +58,10 @@ flow_call s Array p d f es = record { breaks = refl; ends = refl }
 flow_call s (Code params gives value denied) p d f es = record { breaks = refl; ends = refl }
 flow_call s (Refused n) p d f es = record { breaks = refl; ends = refl }
 
+flow_pick : (p : Pos) (s : Scope) (o : Option Picks) (a b : Statement) → FlowsSame (pick_tree p s o a b) (pick p a b)
+flow_pick p s None a b = record { breaks = refl; ends = refl }
+flow_pick p s (Some names) a b = record { breaks = refl; ends = refl }
+
 mutual
   flow_tree : (s : Scope) (t : Statement) → FlowsSame (statement_tree s t) t
   flow_tree s (skip p) = record { breaks = refl; ends = refl }
@@ -78,7 +82,7 @@ mutual
   flow_tree s (point p k) = record { breaks = refl; ends = refl }
   flow_tree s (choice p d k) = record { breaks = refl; ends = refl }
   flow_tree s (force p) = record { breaks = refl; ends = refl }
-  flow_tree s (pick p a b) = record { breaks = refl; ends = refl }
+  flow_tree s (pick p a b) = flow_pick p s s.picks a b
 
   pub flow_list_tree : (s : Scope) (ts : Statements) → FlowSame (list_tree s ts) ts
   flow_list_tree s none = record { breaks = refl; ends = refl }
