@@ -86,6 +86,18 @@ not_covered = 18
 abbrev pub transformer_effect : ℕ
 transformer_effect = 19
 
+-- a client declares a global, or names one of a version
+abbrev pub client_global : ℕ
+client_global = 20
+
+-- a function that a client may not call or name there, or `dsu_force` or a pick where none may stand
+abbrev pub client_call : ℕ
+client_call = 21
+
+-- no function of a client can begin a run
+abbrev pub no_spec : ℕ
+no_spec = 22
+
 -- a size, a number of cells, elements or parameters past its limit
 abbrev pub past_limit : ℕ
 past_limit = 27
@@ -93,10 +105,6 @@ past_limit = 27
 -- a comment that isn't closed
 abbrev pub open_comment : ℕ
 open_comment = 28
-
--- `dsu_force` or a pick outside a client's places for it
-abbrev pub client_call : ℕ
-client_call = 21
 
 abbrev pub name_text : Option Bytes → Bytes
 name_text None = []

@@ -11,15 +11,26 @@ pub enum Shape {
 }
 
 /// A global variable.
-#[derive(Debug, Drop)]
+#[derive(Debug)]
 pub struct GlobalVar {
     pub name: Name,
     pub shape: Shape,
     pub pos: Pos,
 }
 
+// By hand, so that a proof has one step for each global that is dropped.
+impl Drop for GlobalVar {
+    fn drop(self) {
+        let GlobalVar {
+            name: _name,
+            shape: _shape,
+            pos: _pos,
+        } = self;
+    }
+}
+
 /// A function's prototype. `gives` is false for `void`.
-#[derive(Debug, Drop)]
+#[derive(Debug)]
 pub struct Proto {
     pub name: Name,
     pub params: Items<Kind>,
@@ -27,14 +38,39 @@ pub struct Proto {
     pub pos: Pos,
 }
 
+// By hand, so that a proof has one step for each prototype that is dropped.
+impl Drop for Proto {
+    fn drop(self) {
+        let Proto {
+            name: _name,
+            params: _params,
+            gives: _gives,
+            pos: _pos,
+        } = self;
+    }
+}
+
 /// A function. `gives` is false for `void`.
-#[derive(Debug, Drop)]
+#[derive(Debug)]
 pub struct Func {
     pub name: Name,
     pub params: Items<(Kind, Name)>,
     pub gives: bool,
     pub body: Items<Stmt>,
     pub pos: Pos,
+}
+
+// By hand, so that a proof has one step for each function that is dropped.
+impl Drop for Func {
+    fn drop(self) {
+        let Func {
+            name: _name,
+            params: _params,
+            gives: _gives,
+            body: _body,
+            pos: _pos,
+        } = self;
+    }
 }
 
 /// A unit's globals, prototypes and functions, each in source order.

@@ -62,8 +62,14 @@ pub const NOT_COVERED: u8 = 18;
 /// An effect or a global of a transformer, or its call of a version's function.
 pub const TRANSFORMER_EFFECT: u8 = 19;
 
-/// `dsu_force` or a pick outside a client's places for it.
+/// A client declares a global, or names one of a version.
+pub const CLIENT_GLOBAL: u8 = 20;
+
+/// A function that a client may not call or name there, or `dsu_force` or a pick where none may stand.
 pub const CLIENT_CALL: u8 = 21;
+
+/// No function of a client can begin a run.
+pub const NO_SPEC: u8 = 22;
 
 /// A size, a number of cells, elements or parameters past its limit.
 pub const PAST_LIMIT: u8 = 27;

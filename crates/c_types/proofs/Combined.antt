@@ -1,6 +1,7 @@
 -- What holds where several tests find nothing.
 use Rattle.std.proofs.Common.{◌≡◌, ℕ, nat_lt, Bool, true, false, ◌&&◌, ◌||◌, Option, Some, None, refl, ap, arith}
-use Rattle.std.specs.Prelude.{if◌then◌else◌}
+use Rattle.std.specs.Prelude.{if◌then◌else◌, Result, Ok, Err}
+use Rattle.std.specs.Result.{OnOk}
 use Rattle.std.specs.Option.{is_some}
 use Rattle.std.proofs.lemmas.Bool.Decides.{nat_tests}
 use Rattle.c_lang.specs.declared.unit.Pos.{Pos}
@@ -97,3 +98,9 @@ fit_sound p k h = same_sound p k (test_true (same_kind p k) numbers.wrong_kind h
 
 pub fit_itself : (p k : Kind) → p ≡ k → fits p k ≡ None
 fit_itself p k h = rw (h, same_itself k) refl
+
+-- ---- what holds of an answer that is no error
+
+pub on_ok : {X E : Type 0} (r : Result X E) (P Q : Type 0) → (P → Q) → OnOk r P → OnOk r Q
+on_ok (Ok x) P Q f h = f h
+on_ok (Err e) P Q f h = tt

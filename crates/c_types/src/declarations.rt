@@ -56,7 +56,8 @@ fn add_globals(
     Ok(())
 }
 
-fn add_funcs(alloc: Global, symbols: &mut Symbols, funcs: &[Func]) -> Result<(), AllocError>
+/// Adds functions of the unit. The only error is want of memory.
+pub fn add_funcs(alloc: Global, symbols: &mut Symbols, funcs: &[Func]) -> Result<(), AllocError>
     ensures { OnOk result (symbols.new ≡ spec.with_funcs symbols.old funcs.now) }
 {
     for f in funcs {

@@ -12,9 +12,15 @@ use std::alloc::{AllocError, Global};
 use std::marker::Model;
 
 /// Names with what they stand for, in the order of their declarations.
-#[derive(Drop)]
 pub struct Symbols {
     table: IndexMap<Name, Means>,
+}
+
+// By hand, so that a proof has one step for each table that is dropped.
+impl Drop for Symbols {
+    fn drop(self) {
+        let Symbols { table: _table } = self;
+    }
 }
 
 impl Model for Symbols {

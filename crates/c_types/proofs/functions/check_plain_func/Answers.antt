@@ -1,6 +1,6 @@
 use Rattle.std.proofs.Common.{◌≡◌, ◌∙◌, Bool, false, ap, subst}
 use Rattle.std.specs.Result.{OnOk}
-use Rattle.indexmap.proofs.MapLemmas.{OnOk-map}
+use Rattle.c_types.proofs.Combined.{on_ok}
 use Rattle.c_types.specs.Code.SeenScopes.{seen_scope}
 use Rattle.c_types.specs.Scopes.{Scope}
 use Rattle.c_types.specs.Functions.{IsFunc, IsPlain, start_of}
@@ -14,7 +14,7 @@ returns-clause-checked c =
 
 pub returns-clause-plain : goal.returns-clause-plain
 returns-clause-plain c =
-    OnOk-map c.check_func.result _ (IsPlain (seen_scope c.check_func.new.scope))
+    on_ok c.check_func.result _ (IsPlain (seen_scope c.check_func.new.scope))
     (λ stays. (
       ap (λ (s : Scope). s.forced) (stays c.requires.0 false) ∙ c.requires.0,
       ap (λ (s : Scope). s.picks) (stays c.requires.0 false) ∙ c.requires.1,
@@ -23,10 +23,10 @@ returns-clause-plain c =
 
 pub returns-clause-outside : goal.returns-clause-outside
 returns-clause-outside c =
-    OnOk-map c.check_func.result _ (c.check_func.new.scope.outside ≡ c.args.scope.now.outside)
+    on_ok c.check_func.result _ (c.check_func.new.scope.outside ≡ c.args.scope.now.outside)
     (λ stays. ap (λ (s : Scope). s.outside) (stays c.requires.0 false)) c.check_func.ensures.stays
 
 pub returns-clause-xform : goal.returns-clause-xform
 returns-clause-xform c =
-    OnOk-map c.check_func.result _ (c.check_func.new.scope.xform ≡ c.args.scope.now.xform)
+    on_ok c.check_func.result _ (c.check_func.new.scope.xform ≡ c.args.scope.now.xform)
     (λ stays. ap (λ (s : Scope). s.xform) (stays c.requires.0 false)) c.check_func.ensures.stays

@@ -1,0 +1,6 @@
+pub mod Kinds
+pub mod Visible
+pub mod Starts
+pub mod Clients
+pub mod Refusals
+pub mod Kept
