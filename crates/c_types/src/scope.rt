@@ -13,14 +13,19 @@ use c_lang::{Dest, Kind, Name, PARAMETER_LIMIT, refusal};
 use std::alloc::{AllocError, Global};
 
 /// What the two calls of a pick see of the unit and of the versions.
-#[derive(Drop)]
 pub struct Picks {
     pub after: Symbols,
     pub before: Symbols,
 }
 
+// By hand, so that a proof has one step for each pair of tables that is dropped.
+impl Drop for Picks {
+    fn drop(self) {
+        let Picks { after: _after, before: _before } = self;
+    }
+}
+
 /// The names that a statement of a function sees, and the rules that it is under.
-#[derive(Drop)]
 pub struct Scope {
     /// What is visible in the whole unit, as it is here.
     pub outside: Symbols,
@@ -39,6 +44,22 @@ pub struct Scope {
     /// Whether the function is a transformer's. It then has no input, output or point and calls
     /// nothing through a pointer, and no local's name begins with `dsu_old_` or `dsu_new_`.
     pub xform: bool,
+}
+
+// By hand, so that a proof has one step for each scope that is dropped.
+impl Drop for Scope {
+    fn drop(self) {
+        let Scope {
+            outside: _outside,
+            forced: _forced,
+            picks: _picks,
+            locals: _locals,
+            told: _told,
+            ahead: _ahead,
+            gives: _gives,
+            xform: _xform,
+        } = self;
+    }
 }
 
 /// Where the names of a block begin in `locals`, and in `ahead`.

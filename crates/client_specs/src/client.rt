@@ -17,10 +17,17 @@ use version_names::Links;
 
 /// A program that is the resolved form of a client, which was written in unit client, and the name of
 /// the function with which a run begins. Contracts see it as the two.
-#[derive(Debug, Drop)]
+#[derive(Debug)]
 pub struct Client {
     spec: Name,
     program: Program,
+}
+
+// By hand, so that a proof has one step for each client that is dropped.
+impl Drop for Client {
+    fn drop(self) {
+        let Client { spec: _spec, program: _program } = self;
+    }
 }
 
 impl Model for Client {

@@ -15,9 +15,16 @@ use version_names::Links;
 
 /// A program that is the resolved form of a transformer, which was written in unit xform. Contracts
 /// see it as the program.
-#[derive(Debug, Drop)]
+#[derive(Debug)]
 pub struct Xform {
     program: Program,
+}
+
+// By hand, so that a proof has one step for each transformer that is dropped.
+impl Drop for Xform {
+    fn drop(self) {
+        let Xform { program: _program } = self;
+    }
 }
 
 impl Model for Xform {
