@@ -12,16 +12,10 @@ use std::marker::Model;
 
 /// Names that stand in a program, or every name. A look-up takes the same time however many there
 /// are.
+#[derive(Drop)]
 pub struct NameSet<'p> {
     all: bool,
     listed: IndexSet<&'p Name>,
-}
-
-// By hand, so that a proof has one step for each set that is dropped.
-impl Drop for NameSet<'_> {
-    fn drop(self) {
-        let NameSet { all: _all, listed: _listed } = self;
-    }
 }
 
 impl<'p> Model for NameSet<'p> {
