@@ -22,7 +22,5 @@ module _ {T E : Type 0} (r : Result T E) (new o o1 o2 : List ℕ) where
   five o3 o4 a b c d e p q s t h = on_ok (o4 ++ e) (o ++ (a ++ (b ++ (c ++ (d ++ e)))))
       (ap (λ (z : List ℕ). z ++ e) (t ∙ ap (λ (z : List ℕ). z ++ d) (s ∙ ap (λ (z : List ℕ). z ++ c) (q ∙ ap (λ (z : List ℕ). z ++ b) p))) ∙ simp append_assoc) h
 
-  pub six : (o3 o4 a b c d e f : List ℕ) → o1 ≡ o ++ (a ++ b) → o2 ≡ o1 ++ c → o3 ≡ o2 ++ d → o4 ≡ o3 ++ e → OnOk r (new ≡ o4 ++ f)
-      → OnOk r (new ≡ o ++ (a ++ (b ++ (c ++ (d ++ (e ++ f))))))
-  six o3 o4 a b c d e f p q s t h = on_ok (o4 ++ f) (o ++ (a ++ (b ++ (c ++ (d ++ (e ++ f))))))
-      (ap (λ (z : List ℕ). z ++ f) (t ∙ ap (λ (z : List ℕ). z ++ e) (s ∙ ap (λ (z : List ℕ). z ++ d) (q ∙ ap (λ (z : List ℕ). z ++ c) p))) ∙ simp append_assoc) h
+  pub behind : (a b c d : List ℕ) → o1 ≡ o ++ (a ++ (b ++ c)) → OnOk r (new ≡ o1 ++ d) → OnOk r (new ≡ o ++ (a ++ (b ++ (c ++ d))))
+  behind a b c d p h = on_ok (o1 ++ d) (o ++ (a ++ (b ++ (c ++ d)))) (ap (λ (z : List ℕ). z ++ d) p ∙ simp append_assoc) h

@@ -1,11 +1,12 @@
 //! Expressions, with brackets only where grouping needs them.
 
-ghost use Rattle.std.specs.Prelude.{◌≡◌, ◌++◌, OnOk, map};
-ghost use Rattle.c_lang.specs.Trees.{expression_of};
+ghost use Rattle.std.specs.Prelude.{◌≡◌, ◌++◌, ◌+◌, OnOk, map, codes};
+ghost use Rattle.c_lang.specs.Operators.{level, operator_text};
+ghost use Rattle.c_lang.specs.Trees.{expression_of, element, negation, logical_not};
 ghost use Rattle.merge_printer.specs.Expressions as spec;
 
 use crate::text::{put_signed, put_text};
-use c_lang::Expr;
+use c_lang::{Expr, Name, Op};
 use std::alloc::AllocError;
 
 // How tightly the outermost operator binds; 7 where there is none, or a unary one.
@@ -44,39 +45,58 @@ fn put_operand(out: &mut Vec<u8>, least: u8, expr: &Expr) -> Result<(), AllocErr
 }
 
 #[cycle(expression)]
+fn put_element(out: &mut Vec<u8>, name: &Name, index: &Expr) -> Result<(), AllocError>
+    ensures { OnOk result (out.new.items ≡ out.old.items ++ spec.expression_text (element name.now (expression_of index.now))) }
+{
+    put_text(out, name.as_bytes())?;
+    put_text(out, b"[")?;
+    put_expression(out, index)?;
+    put_text(out, b"]")
+}
+
+#[cycle(expression)]
+fn put_negation(out: &mut Vec<u8>, operand: &Expr) -> Result<(), AllocError>
+    ensures { OnOk result (out.new.items ≡ out.old.items ++ spec.expression_text (negation (expression_of operand.now))) }
+{
+    put_text(out, b"-")?;
+    put_gap(out, operand)?;
+    put_operand(out, 7, operand)
+}
+
+#[cycle(expression)]
+fn put_not(out: &mut Vec<u8>, operand: &Expr) -> Result<(), AllocError>
+    ensures { OnOk result (out.new.items ≡ out.old.items ++ spec.expression_text (logical_not (expression_of operand.now))) }
+{
+    put_text(out, b"!")?;
+    put_operand(out, 7, operand)
+}
+
+// An operator and what stands behind it.
+#[cycle(expression)]
+fn put_right(out: &mut Vec<u8>, op: Op, right: &Expr) -> Result<(), AllocError>
+    ensures { OnOk result (out.new.items ≡ out.old.items ++ (codes " " ++ (operator_text op ++ (codes " " ++ spec.in_place (level op + 1) (spec.binds (expression_of right.now)) (spec.expression_text (expression_of right.now)))))) }
+{
+    put_text(out, b" ")?;
+    put_text(out, op.as_bytes())?;
+    put_text(out, b" ")?;
+    put_operand(out, op.level() + 1, right)
+}
+
+#[cycle(expression)]
 pub(crate) fn put_expression(out: &mut Vec<u8>, expr: &Expr) -> Result<(), AllocError>
     ensures { OnOk result (out.new.items ≡ out.old.items ++ spec.expression_text (expression_of expr.now)) }
 {
     match expr {
         Expr::Lit(number) => put_signed(out, *number),
         Expr::Var(name) => put_text(out, name.as_bytes()),
-        Expr::Elem(name, index) => {
-            put_text(out, name.as_bytes())?;
-            out.push(b'[')?;
-            put_expression(out, index.get())?;
-            out.push(b']')?;
-            Ok(())
-        }
+        Expr::Elem(name, index) => put_element(out, name, index.get()),
         Expr::FunRef(name) => put_text(out, name.as_bytes()),
-        Expr::Null => {
-            out.push(b'0')?;
-            Ok(())
-        }
-        Expr::Neg(operand) => {
-            out.push(b'-')?;
-            put_gap(out, operand.get())?;
-            put_operand(out, 7, operand.get())
-        }
-        Expr::Not(operand) => {
-            out.push(b'!')?;
-            put_operand(out, 7, operand.get())
-        }
+        Expr::Null => put_text(out, b"0"),
+        Expr::Neg(operand) => put_negation(out, operand.get()),
+        Expr::Not(operand) => put_not(out, operand.get()),
         Expr::Bin(op, left, right) => {
             put_operand(out, op.level(), left.get())?;
-            out.push(b' ')?;
-            put_text(out, op.as_bytes())?;
-            out.push(b' ')?;
-            put_operand(out, op.level() + 1, right.get())
+            put_right(out, *op, right.get())
         }
     }
 }

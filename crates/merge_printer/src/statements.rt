@@ -2,7 +2,7 @@
 
 ghost use Rattle.std.specs.Prelude.{◌≡◌, ◌++◌, OnOk, codes, map};
 ghost use Rattle.std.specs.Option.{option_map};
-ghost use Rattle.c_lang.specs.Trees.{expression_of, statement_of, statements, set_element, call, input, point, choice};
+ghost use Rattle.c_lang.specs.Trees.{expression_of, statement_of, statements, set_element, call, while_loop, input, point, choice};
 ghost use Rattle.merge_printer.specs.Expressions.{expression_text};
 ghost use Rattle.merge_printer.specs.Statements as spec;
 
@@ -152,6 +152,43 @@ fn put_else(out: &mut Vec<u8>, stmts: &[Stmt]) -> Result<(), AllocError>
     put_text(out, b"}\n")
 }
 
+// An `if` up to the end of its first branch.
+#[cycle(statement)]
+fn put_then(out: &mut Vec<u8>, pos: Pos, yes: &[Stmt], cond: &Expr) -> Result<(), AllocError>
+    ensures { OnOk result (out.new.items ≡ out.old.items ++ (spec.position_text pos ++ (codes "if (" ++ (expression_text (expression_of cond.now) ++ (codes ") {\n" ++ spec.statements_text (statements (map statement_of yes.now))))))) }
+{
+    put_between(out, pos, b"if (", cond, b") {\n")?;
+    put_statements(out, yes)
+}
+
+#[cycle(statement)]
+fn put_while(out: &mut Vec<u8>, pos: Pos, body: &[Stmt], cond: &Expr) -> Result<(), AllocError>
+    ensures { OnOk result (out.new.items ≡ out.old.items ++ spec.statement_text (while_loop pos (expression_of cond.now) (statements (map statement_of body.now)))) }
+{
+    put_between(out, pos, b"while (", cond, b") {\n")?;
+    put_statements(out, body)?;
+    put_text(out, b"}\n")
+}
+
+// A pick up to the end of its first branch.
+#[cycle(statement)]
+fn put_after(out: &mut Vec<u8>, pos: Pos, after: &Stmt) -> Result<(), AllocError>
+    ensures { OnOk result (out.new.items ≡ out.old.items ++ (spec.position_text pos ++ (codes "if (dsu_updated()) {\n" ++ spec.statement_text (statement_of after.now)))) }
+{
+    put_plain(out, pos, b"if (dsu_updated()) {\n")?;
+    put_statement(out, after)
+}
+
+// The second branch of a pick.
+#[cycle(statement)]
+fn put_before(out: &mut Vec<u8>, before: &Stmt) -> Result<(), AllocError>
+    ensures { OnOk result (out.new.items ≡ out.old.items ++ (codes "} else {\n" ++ (spec.statement_text (statement_of before.now) ++ codes "}\n"))) }
+{
+    put_text(out, b"} else {\n")?;
+    put_statement(out, before)?;
+    put_text(out, b"}\n")
+}
+
 #[cycle(statement)]
 fn put_statement(out: &mut Vec<u8>, stmt: &Stmt) -> Result<(), AllocError>
     ensures { OnOk result (out.new.items ≡ out.old.items ++ spec.statement_text (statement_of stmt.now)) }
@@ -178,15 +215,10 @@ fn put_statement(out: &mut Vec<u8>, stmt: &Stmt) -> Result<(), AllocError>
             args,
         } => put_call_statement(out, *pos, dest, pointer, args.as_slice()),
         Stmt::If { pos, cond, yes, no } => {
-            put_between(out, *pos, b"if (", cond, b") {\n")?;
-            put_statements(out, yes.as_slice())?;
+            put_then(out, *pos, yes.as_slice(), cond)?;
             put_else(out, no.as_slice())
         }
-        Stmt::While { pos, cond, body } => {
-            put_between(out, *pos, b"while (", cond, b") {\n")?;
-            put_statements(out, body.as_slice())?;
-            put_text(out, b"}\n")
-        }
+        Stmt::While { pos, cond, body } => put_while(out, *pos, body.as_slice(), cond),
         Stmt::Break { pos } => put_plain(out, *pos, b"break;\n"),
         Stmt::Return { pos, value } => put_return(out, *pos, value),
         Stmt::Assert { pos, cond } => put_between(out, *pos, b"assert(", cond, b");\n"),
@@ -196,11 +228,8 @@ fn put_statement(out: &mut Vec<u8>, stmt: &Stmt) -> Result<(), AllocError>
         Stmt::Choice { pos, dest, k } => put_choice(out, *pos, dest, *k),
         Stmt::Force { pos } => put_plain(out, *pos, b"dsu_force();\n"),
         Stmt::Pick { pos, after, before } => {
-            put_plain(out, *pos, b"if (dsu_updated()) {\n")?;
-            put_statement(out, after.get())?;
-            put_text(out, b"} else {\n")?;
-            put_statement(out, before.get())?;
-            put_text(out, b"}\n")
+            put_after(out, *pos, after.get())?;
+            put_before(out, before.get())
         }
     }
 }

@@ -1,9 +1,9 @@
 //! Statements that no source has: those that stand for points, forces and picks, and the bodies of wrappers
 //! and of `main`. The only error of each function is want of memory.
 
-ghost use Rattle.std.specs.Prelude.{◌≡◌, IfOk, map};
-ghost use Rattle.c_lang.specs.Trees.{stmt_of, stmts_of, expr_of, variable};
-ghost use Rattle.merged_program.specs.Names.{now_name};
+ghost use Rattle.std.specs.Prelude.{◌≡◌, IfOk, Some, map, true, false};
+ghost use Rattle.c_lang.specs.Trees.{stmt_of, stmts_of, expr_of, variable, return_with};
+ghost use Rattle.merged_program.specs.Names.{now_name, result_name};
 ghost use Rattle.merged_program.specs.Statements as spec;
 
 use c_lang::{Dest, Expr, Kind, Name, Op, Pos, Stmt};
@@ -154,6 +154,47 @@ fn call(
     })
 }
 
+// A call that gives nothing.
+fn plain_call(
+    alloc: Global,
+    pos: Pos,
+    callee: &Name,
+    params: &[(Kind, Name)],
+) -> Result<Items<Stmt>, AllocError>
+    ensures { IfOk result (λ ss. ss ≡ stmts_of (spec.hand pos false callee.now params.now)) }
+{
+    let mut all = Items::new(alloc);
+    all.push(call(alloc, pos, Dest::Nowhere, callee, params)?)?;
+    Ok(all)
+}
+
+// The result of the call before.
+fn return_result(alloc: Global, pos: Pos) -> Result<Stmt, AllocError>
+    ensures { IfOk result (λ s. s ≡ stmt_of (return_with pos (Some (variable result_name)))) }
+{
+    let result = Name::new(alloc, RESULT)?;
+    Ok(Stmt::Return {
+        pos,
+        value: Some(Expr::Var(result)),
+    })
+}
+
+// A call whose result is handed on.
+fn handed_call(
+    alloc: Global,
+    pos: Pos,
+    callee: &Name,
+    params: &[(Kind, Name)],
+) -> Result<Items<Stmt>, AllocError>
+    ensures { IfOk result (λ ss. ss ≡ stmts_of (spec.hand pos true callee.now params.now)) }
+{
+    let name = Name::new(alloc, RESULT)?;
+    let mut all = Items::new(alloc);
+    all.push(call(alloc, pos, Dest::Fresh(Kind::Int, name), callee, params)?)?;
+    all.push(return_result(alloc, pos)?)?;
+    Ok(all)
+}
+
 /// A call of this function with these parameters, whose result is handed on, where it has one.
 pub fn hand(
     alloc: Global,
@@ -164,19 +205,11 @@ pub fn hand(
 ) -> Result<Items<Stmt>, AllocError>
     ensures { IfOk result (λ ss. ss ≡ stmts_of (spec.hand pos gives callee.now params.now)) }
 {
-    let mut all = Items::new(alloc);
-    if !gives {
-        all.push(call(alloc, pos, Dest::Nowhere, callee, params)?)?;
-        return Ok(all);
+    if gives {
+        handed_call(alloc, pos, callee, params)
+    } else {
+        plain_call(alloc, pos, callee, params)
     }
-    let name = Name::new(alloc, RESULT)?;
-    all.push(call(alloc, pos, Dest::Fresh(Kind::Int, name), callee, params)?)?;
-    let value = Expr::Var(Name::new(alloc, RESULT)?);
-    all.push(Stmt::Return {
-        pos,
-        value: Some(value),
-    })?;
-    Ok(all)
 }
 
 /// A wrapper's one statement: the current version's function is called.

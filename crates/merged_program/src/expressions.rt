@@ -2,11 +2,13 @@
 //! want of memory.
 
 ghost use Rattle.std.specs.Prelude.{◌≡◌, IfOk};
+ghost use Rattle.c_lang.specs.Trees as tree;
+ghost use Rattle.c_lang.specs.Trees.{expression_of};
 ghost use Rattle.update_semantics.specs.Linked.{provenance_of};
 ghost use Rattle.merged_program.specs.Code.Built as built;
 
 use crate::names::{function, variable};
-use c_lang::{Dest, Expr};
+use c_lang::{Dest, Expr, Name, Op};
 use sqlite_items::{Boxed, Items};
 use std::alloc::{AllocError, Global};
 use update_semantics::{Meanings, Provenance};
@@ -24,20 +26,44 @@ pub fn renamed(
     match e {
         Expr::Lit(z) => Ok(Expr::Lit(*z)),
         Expr::Var(x) => Ok(Expr::Var(variable(alloc, meanings, origin, x)?)),
-        Expr::Elem(a, i) => {
-            let a = variable(alloc, meanings, origin, a)?;
-            Ok(Expr::Elem(a, boxed(alloc, meanings, origin, i.get())?))
-        }
+        Expr::Elem(a, i) => element(alloc, meanings, origin, a, i.get()),
         Expr::FunRef(f) => Ok(Expr::FunRef(function(alloc, meanings, origin, f)?)),
         Expr::Null => Ok(Expr::Null),
         Expr::Neg(a) => Ok(Expr::Neg(boxed(alloc, meanings, origin, a.get())?)),
         Expr::Not(a) => Ok(Expr::Not(boxed(alloc, meanings, origin, a.get())?)),
-        Expr::Bin(op, a, b) => {
-            let a = boxed(alloc, meanings, origin, a.get())?;
-            let b = boxed(alloc, meanings, origin, b.get())?;
-            Ok(Expr::Bin(*op, a, b))
-        }
+        Expr::Bin(op, a, b) => binary(alloc, meanings, origin, *op, a.get(), b.get()),
     }
+}
+
+#[cycle(renamed)]
+fn element(
+    alloc: Global,
+    meanings: &Meanings<'_>,
+    origin: Provenance,
+    array: &Name,
+    index: &Expr,
+) -> Result<Expr, AllocError>
+    ensures { IfOk result (λ r. r ≡ built.mirrored_expression meanings.now (provenance_of origin) (tree.element array.now (expression_of index.now))) }
+{
+    let index = boxed(alloc, meanings, origin, index)?;
+    let array = variable(alloc, meanings, origin, array)?;
+    Ok(Expr::Elem(array, index))
+}
+
+#[cycle(renamed)]
+fn binary(
+    alloc: Global,
+    meanings: &Meanings<'_>,
+    origin: Provenance,
+    op: Op,
+    left: &Expr,
+    right: &Expr,
+) -> Result<Expr, AllocError>
+    ensures { IfOk result (λ r. r ≡ built.mirrored_expression meanings.now (provenance_of origin) (tree.binary op (expression_of left.now) (expression_of right.now))) }
+{
+    let left = boxed(alloc, meanings, origin, left)?;
+    let right = boxed(alloc, meanings, origin, right)?;
+    Ok(Expr::Bin(op, left, right))
 }
 
 /// The same in a box, where other work comes before its use.

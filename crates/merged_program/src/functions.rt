@@ -1,6 +1,6 @@
 //! The functions of a merged program. The only error of each function is want of memory.
 
-ghost use Rattle.std.specs.Prelude.{◌≡◌, ◌++◌, ◌&&◌, map, None, IfOk, OnOk};
+ghost use Rattle.std.specs.Prelude.{◌≡◌, ◌++◌, ◌∷◌, [], ◌&&◌, codes, map, None, IfOk, OnOk};
 ghost use Rattle.std.specs.List.{filter};
 ghost use Rattle.c_types.specs.Bodies.{body_of};
 ghost use Rattle.c_types.specs.Endings as endings;
@@ -115,14 +115,21 @@ fn parameters(alloc: Global, params: &[(Kind, Name)]) -> Result<Items<(Kind, Nam
     Ok(all)
 }
 
-// What a wrapper does.
-fn wrapper_body(alloc: Global, f: &Func, params: &[(Kind, Name)]) -> Result<Items<Stmt>, AllocError>
-    ensures { IfOk result (λ all. all ≡ built.wrapper_body f.now params.now) }
+// A wrapper's one statement.
+fn wrapper_statement(alloc: Global, f: &Func, params: &[(Kind, Name)]) -> Result<Stmt, AllocError>
+    ensures { IfOk result (λ s. s ≡ built.wrapper_statement f.now params.now) }
 {
     let new = merged_name(alloc, Origin::New, &f.name)?;
     let old = merged_name(alloc, Origin::Old, &f.name)?;
+    wrapping(alloc, f.pos, f.gives, &new, &old, params)
+}
+
+// What a wrapper does.
+fn wrapper_body(alloc: Global, f: &Func, params: &[(Kind, Name)]) -> Result<Items<Stmt>, AllocError>
+    ensures { IfOk result (λ all. all ≡ built.wrapper_statement f.now params.now ∷ []) }
+{
     let mut all = Items::new(alloc);
-    all.push(wrapping(alloc, f.pos, f.gives, &new, &old, params)?)?;
+    all.push(wrapper_statement(alloc, f, params)?)?;
     Ok(all)
 }
 
@@ -160,16 +167,12 @@ fn head_of(f: Option<&Func>) -> (Pos, bool)
     }
 }
 
-// The body of `main`: a call of this function.
-fn starting_body(
-    alloc: Global,
-    pos: Pos,
-    gives: bool,
-    callee: &Name,
-) -> Result<Items<Stmt>, AllocError>
-    ensures { IfOk result (λ all. all ≡ built.starting_body pos gives callee.now) }
+// The body of `main`: a call of the old version's.
+fn starting_body(alloc: Global, pos: Pos, gives: bool) -> Result<Items<Stmt>, AllocError>
+    ensures { IfOk result (λ all. all ≡ built.starting_body pos gives (codes "dsu_old_main")) }
 {
-    let mut all = hand(alloc, pos, gives, callee, &[])?;
+    let callee = Name::new(alloc, b"dsu_old_main")?;
+    let mut all = hand(alloc, pos, gives, &callee, &[])?;
     if !gives {
         all.push(return_zero(pos))?;
     }
@@ -180,8 +183,7 @@ fn main_func(alloc: Global, meanings: &Meanings<'_>) -> Result<Func, AllocError>
     ensures { IfOk result (λ merged. merged ≡ spec.merged_main (world_of meanings.now) None) }
 {
     let (pos, gives) = head_of(meanings.version_code(Version::Old, b"main").func);
-    let callee = Name::new(alloc, b"dsu_old_main")?;
-    let body = starting_body(alloc, pos, gives, &callee)?;
+    let body = starting_body(alloc, pos, gives)?;
     let name = Name::new(alloc, b"main")?;
     Ok(Func {
         name,
@@ -252,17 +254,28 @@ fn add_xform(
     Ok(())
 }
 
+// The functions of both versions and the wrappers.
+fn add_versions(
+    alloc: Global,
+    meanings: &Meanings<'_>,
+    all: &mut Items<Func>,
+) -> Result<(), AllocError>
+    ensures { OnOk result (all.new ≡ all.old ++ built.version_funcs meanings.now) }
+{
+    let old = meanings.program(Version::Old).funcs.as_slice();
+    let new = meanings.program(Version::New).funcs.as_slice();
+    add_old(alloc, meanings, all, old)?;
+    add_new(alloc, meanings, all, new)?;
+    add_wrappers(alloc, meanings, all, old)
+}
+
 /// The functions of both versions, the wrappers, the transformer's functions, and `main`.
 pub fn funcs(alloc: Global, meanings: &Meanings<'_>) -> Result<Items<Func>, AllocError>
     ensures { IfOk result (λ all. all ≡ spec.merged_funcs (world_of meanings.now)) }
 {
-    let old = meanings.program(Version::Old).funcs.as_slice();
-    let new = meanings.program(Version::New).funcs.as_slice();
-    let xform = meanings.world().xform().program().funcs.as_slice();
     let mut all = Items::new(alloc);
-    add_old(alloc, meanings, &mut all, old)?;
-    add_new(alloc, meanings, &mut all, new)?;
-    add_wrappers(alloc, meanings, &mut all, old)?;
+    add_versions(alloc, meanings, &mut all)?;
+    let xform = meanings.world().xform().program().funcs.as_slice();
     add_xform(alloc, meanings, &mut all, xform)?;
     all.push(main_func(alloc, meanings)?)?;
     Ok(all)

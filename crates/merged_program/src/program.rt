@@ -2,6 +2,7 @@
 
 ghost use Rattle.std.specs.Prelude.{◌≡◌, IfOk, map};
 ghost use Rattle.update_semantics.specs.Worlds.{IsWorld, world_of};
+ghost use Rattle.merged_program.specs.Code.Built as built;
 ghost use Rattle.merged_program.specs.Programs as spec;
 
 use crate::functions::funcs;
@@ -36,6 +37,31 @@ fn prototypes(alloc: Global, funcs: &[Func]) -> Result<Items<Proto>, AllocError>
     Ok(all)
 }
 
+// The program with these functions, their prototypes, and the globals of a world.
+fn with_funcs(
+    alloc: Global,
+    meanings: &Meanings<'_>,
+    funcs: Items<Func>,
+) -> Result<Program, AllocError>
+    ensures { IfOk result (λ program. program ≡ built.with_funcs meanings.now funcs) }
+{
+    let protos = prototypes(alloc, funcs.as_slice())?;
+    let globals = globals(alloc, meanings)?;
+    Ok(Program {
+        globals,
+        protos,
+        funcs,
+        early: Items::new(alloc),
+    })
+}
+
+fn program_of(alloc: Global, meanings: &Meanings<'_>) -> Result<Program, AllocError>
+    ensures { IfOk result (λ program. program ≡ spec.merged_program (world_of meanings.now)) }
+{
+    let funcs = funcs(alloc, meanings)?;
+    with_funcs(alloc, meanings, funcs)
+}
+
 /// The program that the versions and the transformer of a world are merged into. The only error is want
 /// of memory.
 pub fn merged_program(alloc: Global, world: &World) -> Result<Program, AllocError>
@@ -43,13 +69,5 @@ pub fn merged_program(alloc: Global, world: &World) -> Result<Program, AllocErro
     ensures made { IsWorld world.now }
 {
     let meanings = Meanings::new(alloc, world)?;
-    let funcs = funcs(alloc, &meanings)?;
-    let protos = prototypes(alloc, funcs.as_slice())?;
-    let globals = globals(alloc, &meanings)?;
-    Ok(Program {
-        globals,
-        protos,
-        funcs,
-        early: Items::new(alloc),
-    })
+    program_of(alloc, &meanings)
 }

@@ -2,7 +2,8 @@
 
 ghost use Rattle.std.specs.Prelude.{◌≡◌, IfOk, map, [], ◌∷◌};
 ghost use Rattle.c_lang.specs.Trees as tree;
-ghost use Rattle.c_lang.specs.Trees.{expression_of};
+ghost use Rattle.std.specs.Option.{option_map};
+ghost use Rattle.c_lang.specs.Trees.{expression_of, statement_of};
 ghost use Rattle.update_semantics.specs.Linked.{provenance_of};
 ghost use Rattle.merged_program.specs.Code.Built as built;
 
@@ -120,6 +121,72 @@ fn point(
     }
 }
 
+fn return_with(
+    alloc: Global,
+    meanings: &Meanings<'_>,
+    origin: Provenance,
+    pos: Pos,
+    value: &Option<Expr>,
+) -> Result<Stmt, AllocError>
+    ensures { IfOk result (λ s. s ≡ built.mirrored meanings.now (provenance_of origin) (tree.return_with pos (option_map expression_of value.now))) }
+{
+    let value = optional(alloc, meanings, origin, value)?;
+    Ok(Stmt::Return { pos, value })
+}
+
+fn assert_that(
+    alloc: Global,
+    meanings: &Meanings<'_>,
+    origin: Provenance,
+    pos: Pos,
+    cond: &Expr,
+) -> Result<Stmt, AllocError>
+    ensures { IfOk result (λ s. s ≡ built.mirrored meanings.now (provenance_of origin) (tree.assert_that pos (expression_of cond.now))) }
+{
+    let cond = renamed(alloc, meanings, origin, cond)?;
+    Ok(Stmt::Assert { pos, cond })
+}
+
+fn input(
+    alloc: Global,
+    meanings: &Meanings<'_>,
+    origin: Provenance,
+    pos: Pos,
+    to: &Dest,
+) -> Result<Stmt, AllocError>
+    ensures { IfOk result (λ s. s ≡ built.mirrored meanings.now (provenance_of origin) (tree.input pos to.now)) }
+{
+    let dest = dest(alloc, meanings, origin, to)?;
+    Ok(Stmt::Input { pos, dest })
+}
+
+fn output(
+    alloc: Global,
+    meanings: &Meanings<'_>,
+    origin: Provenance,
+    pos: Pos,
+    value: &Expr,
+) -> Result<Stmt, AllocError>
+    ensures { IfOk result (λ s. s ≡ built.mirrored meanings.now (provenance_of origin) (tree.output pos (expression_of value.now))) }
+{
+    let value = renamed(alloc, meanings, origin, value)?;
+    Ok(Stmt::Output { pos, value })
+}
+
+fn choice(
+    alloc: Global,
+    meanings: &Meanings<'_>,
+    origin: Provenance,
+    pos: Pos,
+    to: &Dest,
+    k: u32,
+) -> Result<Stmt, AllocError>
+    ensures { IfOk result (λ s. s ≡ built.mirrored meanings.now (provenance_of origin) (tree.choice pos to.now k)) }
+{
+    let dest = dest(alloc, meanings, origin, to)?;
+    Ok(Stmt::Choice { pos, dest, k })
+}
+
 /// A statement of code of this origin.
 #[cycle(merged)]
 pub fn merged(
@@ -155,65 +222,36 @@ pub fn merged(
             pointer,
             args,
         } => call_by(alloc, meanings, origin, *pos, to, pointer, args.as_slice()),
-        Stmt::If { pos, cond, yes, no } => {
-            let yes = body(alloc, meanings, origin, yes.as_slice())?;
-            let no = body(alloc, meanings, origin, no.as_slice())?;
-            let cond = renamed(alloc, meanings, origin, cond)?;
-            Ok(Stmt::If {
-                pos: *pos,
-                cond,
-                yes,
-                no,
-            })
-        }
+        Stmt::If { pos, cond, yes, no } => if_else(
+            alloc,
+            meanings,
+            origin,
+            *pos,
+            cond,
+            yes.as_slice(),
+            no.as_slice(),
+        ),
         Stmt::While {
             pos,
             cond,
             body: turn,
-        } => {
-            let turn = body(alloc, meanings, origin, turn.as_slice())?;
-            let cond = renamed(alloc, meanings, origin, cond)?;
-            Ok(Stmt::While {
-                pos: *pos,
-                cond,
-                body: turn,
-            })
-        }
+        } => while_loop(alloc, meanings, origin, *pos, cond, turn.as_slice()),
         Stmt::Break { pos } => Ok(Stmt::Break { pos: *pos }),
-        Stmt::Return { pos, value } => Ok(Stmt::Return {
-            pos: *pos,
-            value: optional(alloc, meanings, origin, value)?,
-        }),
-        Stmt::Assert { pos, cond } => Ok(Stmt::Assert {
-            pos: *pos,
-            cond: renamed(alloc, meanings, origin, cond)?,
-        }),
-        Stmt::Input { pos, dest: to } => Ok(Stmt::Input {
-            pos: *pos,
-            dest: dest(alloc, meanings, origin, to)?,
-        }),
-        Stmt::Output { pos, value } => Ok(Stmt::Output {
-            pos: *pos,
-            value: renamed(alloc, meanings, origin, value)?,
-        }),
+        Stmt::Return { pos, value } => return_with(alloc, meanings, origin, *pos, value),
+        Stmt::Assert { pos, cond } => assert_that(alloc, meanings, origin, *pos, cond),
+        Stmt::Input { pos, dest: to } => input(alloc, meanings, origin, *pos, to),
+        Stmt::Output { pos, value } => output(alloc, meanings, origin, *pos, value),
         Stmt::Point { pos, k } => point(alloc, meanings, origin, *pos, *k),
-        Stmt::Choice { pos, dest: to, k } => Ok(Stmt::Choice {
-            pos: *pos,
-            dest: dest(alloc, meanings, origin, to)?,
-            k: *k,
-        }),
+        Stmt::Choice { pos, dest: to, k } => choice(alloc, meanings, origin, *pos, to, *k),
         Stmt::Force { pos } => forcing(alloc, *pos),
-        Stmt::Pick { pos, after, before } => {
-            let yes = one(alloc, meanings, origin, after.get())?;
-            let no = one(alloc, meanings, origin, before.get())?;
-            let cond = is_updated(alloc)?;
-            Ok(Stmt::If {
-                pos: *pos,
-                cond,
-                yes,
-                no,
-            })
-        }
+        Stmt::Pick { pos, after, before } => pick(
+            alloc,
+            meanings,
+            origin,
+            *pos,
+            after.get(),
+            before.get(),
+        ),
     }
 }
 
@@ -230,6 +268,58 @@ fn one(
     let mut all = Items::new(alloc);
     all.push(merged(alloc, meanings, origin, s)?)?;
     Ok(all)
+}
+
+#[cycle(merged)]
+fn if_else(
+    alloc: Global,
+    meanings: &Meanings<'_>,
+    origin: Provenance,
+    pos: Pos,
+    cond: &Expr,
+    yes: &[Stmt],
+    no: &[Stmt],
+) -> Result<Stmt, AllocError>
+    ensures { IfOk result (λ s. s ≡ built.mirrored meanings.now (provenance_of origin) (tree.if_else pos (expression_of cond.now) (tree.statements (map statement_of yes.now)) (tree.statements (map statement_of no.now)))) }
+{
+    let yes = body(alloc, meanings, origin, yes)?;
+    let no = body(alloc, meanings, origin, no)?;
+    let cond = renamed(alloc, meanings, origin, cond)?;
+    Ok(Stmt::If { pos, cond, yes, no })
+}
+
+#[cycle(merged)]
+fn while_loop(
+    alloc: Global,
+    meanings: &Meanings<'_>,
+    origin: Provenance,
+    pos: Pos,
+    cond: &Expr,
+    turn: &[Stmt],
+) -> Result<Stmt, AllocError>
+    ensures { IfOk result (λ s. s ≡ built.mirrored meanings.now (provenance_of origin) (tree.while_loop pos (expression_of cond.now) (tree.statements (map statement_of turn.now)))) }
+{
+    let body = body(alloc, meanings, origin, turn)?;
+    let cond = renamed(alloc, meanings, origin, cond)?;
+    Ok(Stmt::While { pos, cond, body })
+}
+
+// A pick tests the flag.
+#[cycle(merged)]
+fn pick(
+    alloc: Global,
+    meanings: &Meanings<'_>,
+    origin: Provenance,
+    pos: Pos,
+    after: &Stmt,
+    before: &Stmt,
+) -> Result<Stmt, AllocError>
+    ensures { IfOk result (λ s. s ≡ built.mirrored meanings.now (provenance_of origin) (tree.pick pos (statement_of after.now) (statement_of before.now))) }
+{
+    let yes = one(alloc, meanings, origin, after)?;
+    let no = one(alloc, meanings, origin, before)?;
+    let cond = is_updated(alloc)?;
+    Ok(Stmt::If { pos, cond, yes, no })
 }
 
 /// The statements of a body.

@@ -22,10 +22,17 @@ use version_names::Version;
 type Values<'p> = IndexMap<&'p [u8], Value<Function<'p>>>;
 
 /// The cells that stand at one home: scalars and pointers, and arrays, by their names.
-#[derive(Drop)]
 pub struct Cells<'p> {
     values: Values<'p>,
     arrays: Arrays<'p>,
+}
+
+impl Drop for Cells<'_> {
+    fn drop(self) {
+        let Cells { values, arrays } = self;
+        drop(values);
+        drop(arrays);
+    }
 }
 
 fn origin(version: Version) -> Provenance

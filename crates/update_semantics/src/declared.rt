@@ -19,11 +19,22 @@ type Funcs<'p> = IndexMap<&'p [u8], &'p Func>;
 
 /// A program with its globals and functions by the bytes of their names, which contracts see as the
 /// program.
-#[derive(Drop)]
 pub struct Declared<'p> {
     program: &'p Program,
     globals: Globals<'p>,
     funcs: Funcs<'p>,
+}
+
+impl Drop for Declared<'_> {
+    fn drop(self) {
+        let Declared {
+            program: _,
+            globals,
+            funcs,
+        } = self;
+        drop(globals);
+        drop(funcs);
+    }
 }
 
 impl<'p> Model for Declared<'p> {

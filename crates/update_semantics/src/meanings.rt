@@ -20,12 +20,25 @@ use std::marker::Model;
 use version_names::{Part, Sort2, Version};
 
 /// A world with the declarations of its three programs by name, which contracts see as the world.
-#[derive(Drop)]
 pub struct Meanings<'p> {
     world: &'p World,
     first: Declared<'p>,
     second: Declared<'p>,
     xform: Declared<'p>,
+}
+
+impl Drop for Meanings<'_> {
+    fn drop(self) {
+        let Meanings {
+            world: _,
+            first,
+            second,
+            xform,
+        } = self;
+        drop(first);
+        drop(second);
+        drop(xform);
+    }
 }
 
 impl<'p> Model for Meanings<'p> {

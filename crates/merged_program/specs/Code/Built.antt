@@ -1,16 +1,18 @@
 -- What the code builds: expressions, statements and lists of them in a world of the code.
 use Rattle.std.specs.Borrow.{Bor}
 use Rattle.std.specs.Prelude.{Bool, if◌then◌else◌, List, [], ◌∷◌, ◌++◌, map, Option, Some, None}
+use Rattle.std.specs.List.{filter}
 use Rattle.std.specs.Option.{option_map}
 use Rattle.c_lang.specs.Names.{Bytes}
 use Rattle.c_lang.specs.Programs.{no_func}
-use Rattle.c_lang.specs.Trees.{Statement, expression_of, expr_of, statement_of, stmt_of, stmts_of}
+use Rattle.c_lang.specs.Trees.{Expression, Statement, expression_of, expr_of, statement_of, stmt_of, stmts_of}
 use Rattle.c_lang.specs.declared.expr.Expr.{Expr}
 use Rattle.c_lang.specs.declared.unit.Pos.{Pos}
 use Rattle.c_lang.specs.declared.stmt.Kind.{Kind}
 use Rattle.c_lang.specs.declared.stmt.Dest.{Dest}
 use Rattle.c_lang.specs.declared.stmt.Stmt.{Stmt}
 use Rattle.c_lang.specs.declared.program.Func.{Func}
+use Rattle.c_lang.specs.declared.program.Program.{Program}
 use Rattle.c_types.specs.Bodies.{body_of}
 use Rattle.version_names.specs.Merged.{merged_name}
 use Rattle.version_names.specs.Provenance.{Provenance}
@@ -20,7 +22,7 @@ use Rattle.update_semantics.specs.Worlds.{World, world_of}
 use Rattle.merged_program.specs.Names.{variable_name, function_name}
 use Rattle.merged_program.specs.Expressions.{renamed_dest, renamed, all_renamed, renamed_option}
 use Rattle.merged_program.specs.Statements.{hand, wrapping, return_zero, merged_statement, merged_statements}
-use Rattle.merged_program.specs.Programs.{merged_param}
+use Rattle.merged_program.specs.Programs.{declared, wrapper, is_wrapped, old_func, new_func, merged_param, merged_globals}
 
 module _ (w : World) (o : Provenance) where
   abbrev pub variable : Bytes → Bytes
@@ -29,8 +31,11 @@ module _ (w : World) (o : Provenance) where
   abbrev pub function : Bytes → Bytes
   function = function_name (world_of w) o
 
+  abbrev pub mirrored_expression : Expression → Expr
+  mirrored_expression e = expr_of (renamed variable function e)
+
   abbrev pub expression : Expr → Expr
-  expression e = expr_of (renamed variable function (expression_of e))
+  expression e = mirrored_expression (expression_of e)
 
   abbrev pub expressions : List Expr → List Expr
   expressions es = map expr_of (all_renamed variable function (map expression_of es))
@@ -55,8 +60,20 @@ module _ (w : World) (o : Provenance) where
   with_body prefix f body =
       record { name = merged_name prefix f.name; params = map (merged_param (world_of w) o) f.params; gives = f.gives; body = body; pos = f.pos }
 
-abbrev pub wrapper_body : Func → List (Kind × Bytes) → List Stmt
-wrapper_body f params = stmt_of (wrapping f.pos f.gives (merged_name prefix.New f.name) (merged_name prefix.Old f.name) params) ∷ []
+module _ (w : World) where
+  -- the functions of both versions and the wrappers
+  abbrev pub version_funcs : List Func
+  version_funcs =
+      map (old_func (world_of w)) (world_of w).first.funcs
+      ++ (map (new_func (world_of w)) (world_of w).second.funcs
+      ++ map wrapper (filter (is_wrapped (world_of w)) (world_of w).first.funcs))
+
+  -- the program with these functions
+  abbrev pub with_funcs : List Func → Program
+  with_funcs fs = record { globals = merged_globals (world_of w); protos = map declared fs; funcs = fs; early = [] }
+
+abbrev pub wrapper_statement : Func → List (Kind × Bytes) → Stmt
+wrapper_statement f params = stmt_of (wrapping f.pos f.gives (merged_name prefix.New f.name) (merged_name prefix.Old f.name) params)
 
 -- where the function stands, and whether it gives a value
 abbrev pub head_of : Option (Bor Func) → Pos × Bool

@@ -1,10 +1,10 @@
-use Rattle.std.proofs.Common.{◌∙◌, ◌++◌, ap, codes}
+use Rattle.std.proofs.Common.{◌≡◌, ◌∙◌, [], ◌++◌, OnOk, ap, subst, codes}
 use Rattle.c_lang.specs.Trees.{statement_of}
 use Rattle.c_lang.specs.declared.stmt.Stmt.{Stmt}
 use Rattle.merge_printer.specs.Statements.{position_text, statement_text}
 use Rattle.c_lang.proofs.TreeLemmas.{statement_of-Output, statement_of-Force, statement_of-Pick}
 use Rattle.merge_printer.proofs.Else.{else_text_some}
-use Rattle.merge_printer.proofs.Appends.{three, six}
+use Rattle.merge_printer.proofs.Appends.{three, behind}
 use Rattle.merge_printer.proofs.statements.+statement.Goals as goal
 
 pub put_else-returns : goal.put_else-returns
@@ -19,9 +19,9 @@ put_statement-returns-in-Output t c =
 pub put_statement-returns-in-Force : goal.put_statement-returns-in-Force
 put_statement-returns-in-Force t c = rw (c.in-Force.is, statement_of-Force c.in-Force.pos) c.put_plain-in-Force.ensures
 
-pub put_statement-returns-in_ok-put_statement-in-Pick-2 : goal.put_statement-returns-in_ok-put_statement-in-Pick-2
-put_statement-returns-in_ok-put_statement-in-Pick-2 t c =
-    let after = c.in_ok-put_statement-in-Pick.ensures ∙ ap (λ (s : Stmt). c.put_plain-in-Pick.new.out.items ++ statement_text (statement_of s)) c.get.ensures in
-    let before = c.in_ok-put_statement-in-Pick-2.ensures ∙ ap (λ (s : Stmt). c.put_text-in-Pick.new.out.items ++ statement_text (statement_of s)) c.get-in-Pick.ensures in
+pub put_statement-returns-in_ok-put_after-in-Pick : goal.put_statement-returns-in_ok-put_after-in-Pick
+put_statement-returns-in_ok-put_after-in-Pick t c =
+    let after = c.in_ok-put_after-in-Pick.ensures ∙ ap (λ (s : Stmt). c.args.out.now.items ++ (position_text c.in-Pick.pos ++ (codes "if (dsu_updated()) {\n" ++ statement_text (statement_of s)))) c.get.ensures in
+    let before = subst (λ (s : Stmt). OnOk c.put_before.result (c.put_before.new.out.items ≡ c.put_after.new.out.items ++ (codes "} else {\n" ++ (statement_text (statement_of s) ++ codes "}\n")))) c.get-in-Pick.ensures c.put_before.ensures in
     rw (c.in-Pick.is, statement_of-Pick c.in-Pick.pos c.in-Pick.after c.in-Pick.before)
-    (six _ _ c.args.out.now.items _ c.put_statement.new.out.items _ _ (position_text c.in-Pick.pos) (codes "if (dsu_updated()) {\n") (statement_text (statement_of c.in-Pick.after)) (codes "} else {\n") _ _ c.in_ok-put_plain-in-Pick.ensures after c.in_ok-put_text-in-Pick.ensures before c.put_text-in-Pick-2.ensures)
+    (behind _ _ c.args.out.now.items _ [] (position_text c.in-Pick.pos) (codes "if (dsu_updated()) {\n") (statement_text (statement_of c.in-Pick.after)) (codes "} else {\n" ++ (statement_text (statement_of c.in-Pick.before) ++ codes "}\n")) after before)
