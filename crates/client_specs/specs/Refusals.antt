@@ -17,6 +17,7 @@ use Rattle.client_specs.specs.declared.region.Region.TheVariants.{Here}
 use Rattle.client_specs.specs.Visible.{visible}
 use Rattle.client_specs.specs.Starts.{start}
 use Rattle.client_specs.specs.Clients.{is_spec}
+use Rattle.client_specs.specs.Spelled.{spelled_func}
 
 -- 7 where the name isn't the client's own
 abbrev pub wrong_own_name : Parts → Entries → Bytes → Option ℕ
@@ -42,8 +43,8 @@ module _ (parts : Parts) (old new p : Program) (spec : Bytes) where
 
   abbrev pub resolved_own : List Func → List Func
   resolved_own [] = []
-  resolved_own (f ∷ fs) = resolved_from (start parts old new p spec f) f ∷ resolved_own fs
+  resolved_own (f ∷ fs) = spelled_func parts (resolved_from (start parts old new p spec f) f) ∷ resolved_own fs
 
-  -- names stay as they are written
+  -- with names that say what is meant
   abbrev pub resolved_client : Program
   resolved_client = record p { funcs = resolved_own p.funcs; early = [] }

@@ -26,7 +26,10 @@ pub struct Client {
 // By hand, so that a proof has one step for each client that is dropped.
 impl Drop for Client {
     fn drop(self) {
-        let Client { spec: _spec, program: _program } = self;
+        let Client {
+            spec: _spec,
+            program: _program,
+        } = self;
     }
 }
 
@@ -62,8 +65,8 @@ impl Client {
         &self.spec
     }
 
-    /// The client that was checked, in its resolved form, with its names as they are written. It takes
-    /// no memory.
+    /// The client that was checked, in its resolved form. A function that one version has alone is named
+    /// in it by the version that is meant, as `dsu_old_NAME` or `dsu_new_NAME`. It takes no memory.
     pub fn program(&self) -> &Program
         ensures program { result.now ≡ self.now.program }
         ensures kept { IsKept self.now }

@@ -22,7 +22,8 @@ use sqlite_items::Items;
 use std::alloc::Global;
 use version_names::Links;
 
-fn is_force(s: &Stmt) -> bool
+/// Whether the statement is `dsu_force();`.
+pub fn is_force(s: &Stmt) -> bool
     ensures { result ≡ types.is_force (statement_of s.now) }
 {
     match s {

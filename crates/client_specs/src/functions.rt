@@ -5,6 +5,7 @@ ghost use Rattle.c_types.specs.Checks.{Checked};
 ghost use Rattle.c_types.specs.Code.SeenScopes.{seen_scope, seen_picks};
 ghost use Rattle.c_types.specs.Functions.{refusal_from, resolved_from, start_of};
 ghost use Rattle.client_specs.specs.Refusals as spec;
+ghost use Rattle.client_specs.specs.Spelled.{spelled_func};
 ghost use Rattle.client_specs.specs.Starts as starts;
 ghost use Rattle.client_specs.specs.Kinds.{checked_kind};
 ghost use Rattle.client_specs.specs.Visible as seen;
@@ -14,6 +15,7 @@ ghost use Rattle.version_names.specs.Parts.{parts_in};
 
 use crate::kind::{ClientKind, checked_kind};
 use crate::region::Region;
+use crate::spelled_statements::body;
 use crate::visible::visible;
 use c_lang::{Fail, Func, Name, Program, refusal};
 use c_types::declarations::add_func;
@@ -23,6 +25,14 @@ use c_types::{Scope, Symbols};
 use sqlite_items::Items;
 use std::alloc::{AllocError, Global};
 use version_names::Links;
+
+// Spells the names of a function's body.
+fn spell(alloc: Global, links: &Links, f: &mut Func) -> Result<(), AllocError>
+    ensures { OnOk result (f.new ≡ spelled_func (parts_in links.now) f.old) }
+{
+    f.body = body(alloc, links, Region::Here, f.body.as_slice())?;
+    Ok(())
+}
 
 /// A program that is checked as a client of two others, whose links are given, and the name of the
 /// function with which a run begins.
@@ -155,7 +165,9 @@ impl Checking<'_> {
         let mut all = Items::new(alloc);
         for f in funcs {
             let again = self.wrong_own_name(seen, &f.name);
-            all.push(self.check_one(alloc, scope, again, f)?)?;
+            let mut func = self.check_one(alloc, scope, again, f)?;
+            spell(alloc, self.links, &mut func)?;
+            all.push(func)?;
             add_func(alloc, seen, f)?;
         }
         Ok(all)

@@ -7,6 +7,8 @@ mod clients;
 mod functions;
 mod kind;
 mod region;
+mod spelled_expressions;
+mod spelled_statements;
 mod visible;
 
 pub use client::{Client, check_client};

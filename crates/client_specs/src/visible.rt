@@ -72,11 +72,7 @@ fn bar(alloc: Global, symbols: &mut Symbols, number: u8, name: &Name) -> Result<
     symbols.add(name.copy(alloc)?, Means::Refused(number))
 }
 
-fn bar_cells(
-    alloc: Global,
-    symbols: &mut Symbols,
-    globals: &[GlobalVar],
-) -> Result<(), AllocError>
+fn bar_cells(alloc: Global, symbols: &mut Symbols, globals: &[GlobalVar]) -> Result<(), AllocError>
     ensures { OnOk result (symbols.new ≡ spec.with_barred client_global symbols.old (map (λ (g : GlobalVar). g.name) globals.now)) }
 {
     for g in globals {

@@ -33,7 +33,7 @@ use Rattle.merged_types.proofs.PlainTyping.{ArePlain, plain_declare, list_plain}
 use Rattle.merged_types.proofs.SameFlow.{flow_list_tree, flow_plain_list, flow_merged_list}
 use Rattle.merged_types.proofs.CarriedScopes.{IsNaming, HasUpdate, IsOutside, IsCarried, fresh_carried, local_added}
 use Rattle.merged_types.proofs.CarriedStatements.{body_carried}
-use Rattle.c_types.proofs.FunctionLaws.{plain_body, begun_is_entered}
+use Rattle.c_types.proofs.FunctionLaws.{plain_body as plain_inside, begun_is_entered}
 
 pub record IsResolvedFunc (outside : Entries) (xform : Bool) (f : Func) : Type 0 where
   pub params : AreParams (scope_of outside xform f.gives) f.params
@@ -51,7 +51,7 @@ source_resolved outside xform f h =
     let s = body_scope outside xform f in
     let ts = body_of f.body in
     let whole = list_tree (begun s ts) ts in
-    let plain = plain_body outside xform f in
+    let plain = plain_inside outside xform f in
     record {
       params = h.params;
       few = h.few;
@@ -76,7 +76,7 @@ module _ (outside : Entries) (f : Func) (h : IsResolvedFunc outside false f) whe
       (sym (same_entered (plain_statements h.tree) h.tree (plain_declare h.tree) s)) (list_plain (block_in s) (entered s h.tree) h.tree h.body)
 
   same_begin : (ts : Statements) → begun (body_scope outside false f) ts ≡ entered (body_scope outside false f) ts
-  same_begin ts = begun_is_entered (body_scope outside false f) ts (plain_body outside false f).0
+  same_begin ts = begun_is_entered (body_scope outside false f) ts (plain_inside outside false f).0
 
   -- the plain form is typed
   pub plain_typed : IsTypedFunc outside false (built_func (plain_func f))
