@@ -1,9 +1,7 @@
 //! The functions of a merged program. The only error of each function is want of memory.
 
-ghost use Rattle.std.specs.Prelude.{◌≡◌, ◌++◌, ◌∷◌, [], ◌&&◌, codes, map, None, IfOk, OnOk};
+ghost use Rattle.std.specs.Prelude.{◌≡◌, ◌++◌, ◌∷◌, [], codes, map, None, IfOk, OnOk};
 ghost use Rattle.std.specs.List.{filter};
-ghost use Rattle.c_types.specs.Bodies.{body_of};
-ghost use Rattle.c_types.specs.Endings as endings;
 ghost use Rattle.c_types.specs.Functions as types;
 ghost use Rattle.update_semantics.specs.Linked.{provenance_of};
 ghost use Rattle.update_semantics.specs.Worlds.{world_of};
@@ -37,18 +35,27 @@ fn params(
     Ok(all)
 }
 
+fn prefix(origin: Provenance) -> Origin
+    ensures { result ≡ built.prefix_of (provenance_of origin) }
+{
+    match origin {
+        Provenance::Old => Origin::Old,
+        Provenance::New => Origin::New,
+        Provenance::Xform => Origin::Xform,
+    }
+}
+
 // A function of code of this origin, with its merged body.
 fn with_body(
     alloc: Global,
     meanings: &Meanings<'_>,
     origin: Provenance,
-    prefix: Origin,
     f: &Func,
     body: Items<Stmt>,
 ) -> Result<Func, AllocError>
-    ensures { IfOk result (λ merged. merged ≡ built.with_body meanings.now (provenance_of origin) prefix f.now body) }
+    ensures { IfOk result (λ merged. merged ≡ built.with_body meanings.now (provenance_of origin) f.now body) }
 {
-    let name = merged_name(alloc, prefix, &f.name)?;
+    let name = merged_name(alloc, prefix(origin), &f.name)?;
     let params = params(alloc, meanings, origin, f.params.as_slice())?;
     Ok(Func {
         name,
@@ -59,48 +66,43 @@ fn with_body(
     })
 }
 
-// Whether the function is a `main` whose end can be reached.
-fn ends_open(f: &Func) -> bool
-    ensures { result ≡ (types.is_main f.now.name && endings.can_end (body_of f.now.body)) }
+// Whether the function is a version's `main` whose end can be reached.
+fn ends_open(origin: Provenance, f: &Func) -> bool
+    ensures { result ≡ built.ends_open (provenance_of origin) f.now }
 {
-    is_main(&f.name) && can_end(f.body.as_slice())
+    match origin {
+        Provenance::Old | Provenance::New => is_main(&f.name) && can_end(f.body.as_slice()),
+        Provenance::Xform => false,
+    }
 }
 
-// A version's body, where a `main` that can end gives 0.
+// A merged body, which gives 0 where it is that of a version's `main` that can end.
 fn closed_body(
     alloc: Global,
     meanings: &Meanings<'_>,
     origin: Provenance,
     f: &Func,
 ) -> Result<Items<Stmt>, AllocError>
-    ensures { IfOk result (λ all. all ≡ built.statements meanings.now (provenance_of origin) f.now.body ++ spec.ending f.now) }
+    ensures { IfOk result (λ all. all ≡ built.closed_body meanings.now (provenance_of origin) f.now) }
 {
     let mut all = body(alloc, meanings, origin, f.body.as_slice())?;
-    if ends_open(f) {
+    if ends_open(origin, f) {
         all.push(return_zero(f.pos))?;
     }
     Ok(all)
 }
 
-fn old_func(alloc: Global, meanings: &Meanings<'_>, f: &Func) -> Result<Func, AllocError>
-    ensures { IfOk result (λ merged. merged ≡ spec.old_func (world_of meanings.now) f.now) }
+// A function of code of this origin.
+fn code_func(
+    alloc: Global,
+    meanings: &Meanings<'_>,
+    origin: Provenance,
+    f: &Func,
+) -> Result<Func, AllocError>
+    ensures { IfOk result (λ merged. merged ≡ built.code_func meanings.now (provenance_of origin) f.now) }
 {
-    let body = closed_body(alloc, meanings, Provenance::Old, f)?;
-    with_body(alloc, meanings, Provenance::Old, Origin::Old, f, body)
-}
-
-fn new_func(alloc: Global, meanings: &Meanings<'_>, f: &Func) -> Result<Func, AllocError>
-    ensures { IfOk result (λ merged. merged ≡ spec.new_func (world_of meanings.now) f.now) }
-{
-    let body = closed_body(alloc, meanings, Provenance::New, f)?;
-    with_body(alloc, meanings, Provenance::New, Origin::New, f, body)
-}
-
-fn xform_func(alloc: Global, meanings: &Meanings<'_>, f: &Func) -> Result<Func, AllocError>
-    ensures { IfOk result (λ merged. merged ≡ spec.xform_func (world_of meanings.now) f.now) }
-{
-    let body = body(alloc, meanings, Provenance::Xform, f.body.as_slice())?;
-    with_body(alloc, meanings, Provenance::Xform, Origin::Xform, f, body)
+    let body = closed_body(alloc, meanings, origin, f)?;
+    with_body(alloc, meanings, origin, f, body)
 }
 
 // ---- wrappers
@@ -196,30 +198,17 @@ fn main_func(alloc: Global, meanings: &Meanings<'_>) -> Result<Func, AllocError>
 
 // ---- all of them
 
-fn add_old(
+fn add_code(
     alloc: Global,
     meanings: &Meanings<'_>,
+    origin: Provenance,
     all: &mut Items<Func>,
     funcs: &[Func],
 ) -> Result<(), AllocError>
-    ensures { OnOk result (all.new ≡ all.old ++ map (spec.old_func (world_of meanings.now)) funcs.now) }
+    ensures { OnOk result (all.new ≡ all.old ++ map (built.code_func meanings.now (provenance_of origin)) funcs.now) }
 {
     for f in funcs {
-        all.push(old_func(alloc, meanings, f)?)?;
-    }
-    Ok(())
-}
-
-fn add_new(
-    alloc: Global,
-    meanings: &Meanings<'_>,
-    all: &mut Items<Func>,
-    funcs: &[Func],
-) -> Result<(), AllocError>
-    ensures { OnOk result (all.new ≡ all.old ++ map (spec.new_func (world_of meanings.now)) funcs.now) }
-{
-    for f in funcs {
-        all.push(new_func(alloc, meanings, f)?)?;
+        all.push(code_func(alloc, meanings, origin, f)?)?;
     }
     Ok(())
 }
@@ -240,20 +229,6 @@ fn add_wrappers(
     Ok(())
 }
 
-fn add_xform(
-    alloc: Global,
-    meanings: &Meanings<'_>,
-    all: &mut Items<Func>,
-    funcs: &[Func],
-) -> Result<(), AllocError>
-    ensures { OnOk result (all.new ≡ all.old ++ map (spec.xform_func (world_of meanings.now)) funcs.now) }
-{
-    for f in funcs {
-        all.push(xform_func(alloc, meanings, f)?)?;
-    }
-    Ok(())
-}
-
 // The functions of both versions and the wrappers.
 fn add_versions(
     alloc: Global,
@@ -264,8 +239,8 @@ fn add_versions(
 {
     let old = meanings.program(Version::Old).funcs.as_slice();
     let new = meanings.program(Version::New).funcs.as_slice();
-    add_old(alloc, meanings, all, old)?;
-    add_new(alloc, meanings, all, new)?;
+    add_code(alloc, meanings, Provenance::Old, all, old)?;
+    add_code(alloc, meanings, Provenance::New, all, new)?;
     add_wrappers(alloc, meanings, all, old)
 }
 
@@ -276,7 +251,7 @@ pub fn funcs(alloc: Global, meanings: &Meanings<'_>) -> Result<Items<Func>, Allo
     let mut all = Items::new(alloc);
     add_versions(alloc, meanings, &mut all)?;
     let xform = meanings.world().xform().program().funcs.as_slice();
-    add_xform(alloc, meanings, &mut all, xform)?;
+    add_code(alloc, meanings, Provenance::Xform, &mut all, xform)?;
     all.push(main_func(alloc, meanings)?)?;
     Ok(all)
 }

@@ -1,6 +1,6 @@
 -- What the code builds: expressions, statements and lists of them in a world of the code.
 use Rattle.std.specs.Borrow.{Bor}
-use Rattle.std.specs.Prelude.{Bool, if◌then◌else◌, List, [], ◌∷◌, ◌++◌, map, Option, Some, None}
+use Rattle.std.specs.Prelude.{Bool, false, ◌&&◌, if◌then◌else◌, List, [], ◌∷◌, ◌++◌, map, Option, Some, None}
 use Rattle.std.specs.List.{filter}
 use Rattle.std.specs.Option.{option_map}
 use Rattle.c_lang.specs.Names.{Bytes}
@@ -14,15 +14,31 @@ use Rattle.c_lang.specs.declared.stmt.Stmt.{Stmt}
 use Rattle.c_lang.specs.declared.program.Func.{Func}
 use Rattle.c_lang.specs.declared.program.Program.{Program}
 use Rattle.c_types.specs.Bodies.{body_of}
+use Rattle.c_types.specs.Endings.{can_end}
+use Rattle.c_types.specs.Functions.{is_main}
 use Rattle.version_names.specs.Merged.{merged_name}
 use Rattle.version_names.specs.Provenance.{Provenance}
+use Rattle.version_names.specs.Provenance as origin
 use Rattle.version_names.specs.declared.part.Origin.{Origin}
 use Rattle.version_names.specs.declared.part.Origin.TheVariants as prefix
 use Rattle.update_semantics.specs.Worlds.{World, world_of}
 use Rattle.merged_program.specs.Names.{variable_name, function_name}
 use Rattle.merged_program.specs.Expressions.{renamed_dest, renamed, all_renamed, renamed_option}
 use Rattle.merged_program.specs.Statements.{hand, wrapping, return_zero, merged_statement, merged_statements}
-use Rattle.merged_program.specs.Programs.{declared, wrapper, is_wrapped, old_func, new_func, merged_param, merged_globals}
+use Rattle.merged_program.specs.Programs.{declared, wrapper, is_wrapped, merged_param, merged_globals}
+
+abbrev pub prefix_of : Provenance → Origin
+prefix_of origin.Old = prefix.Old
+prefix_of origin.New = prefix.New
+prefix_of origin.Xform = prefix.Xform
+prefix_of origin.Client = prefix.Client
+
+-- a version's `main` whose end can be reached
+abbrev pub ends_open : Provenance → Func → Bool
+ends_open origin.Old f = is_main f.name && can_end (body_of f.body)
+ends_open origin.New f = is_main f.name && can_end (body_of f.body)
+ends_open origin.Xform f = false
+ends_open origin.Client f = false
 
 module _ (w : World) (o : Provenance) where
   abbrev pub variable : Bytes → Bytes
@@ -56,16 +72,23 @@ module _ (w : World) (o : Provenance) where
   statements ss = stmts_of (merged_statements (world_of w).permits (variable_name (world_of w)) (function_name (world_of w)) o (body_of ss))
 
   -- a function of code of this origin with a body that is merged
-  abbrev pub with_body : Origin → Func → List Stmt → Func
-  with_body prefix f body =
-      record { name = merged_name prefix f.name; params = map (merged_param (world_of w) o) f.params; gives = f.gives; body = body; pos = f.pos }
+  abbrev pub with_body : Func → List Stmt → Func
+  with_body f body =
+      record { name = merged_name (prefix_of o) f.name; params = map (merged_param (world_of w) o) f.params; gives = f.gives; body = body; pos = f.pos }
+
+  -- its merged body, which gives 0 where it is that of a version's `main` that can end
+  abbrev pub closed_body : Func → List Stmt
+  closed_body f = statements f.body ++ (if ends_open o f then stmt_of (return_zero f.pos) ∷ [] else [])
+
+  abbrev pub code_func : Func → Func
+  code_func f = with_body f (closed_body f)
 
 module _ (w : World) where
   -- the functions of both versions and the wrappers
   abbrev pub version_funcs : List Func
   version_funcs =
-      map (old_func (world_of w)) (world_of w).first.funcs
-      ++ (map (new_func (world_of w)) (world_of w).second.funcs
+      map (code_func w origin.Old) (world_of w).first.funcs
+      ++ (map (code_func w origin.New) (world_of w).second.funcs
       ++ map wrapper (filter (is_wrapped (world_of w)) (world_of w).first.funcs))
 
   -- the program with these functions
