@@ -1,4 +1,4 @@
-//! Cases of the plain machine, of links, of update points and of transformers.
+//! Cases of the plain machine, of links, of update points, of transformers and of clients.
 //!
 //! Each line of `stdin` has a line of `stdout` with the same number. A line `old TEXT`, `new TEXT`,
 //! `client TEXT` or `merged TEXT` sets a text for the cases below it; a text is as `case_texts` has it.
@@ -6,6 +6,7 @@
 //! line is a case, and its answer is printed.
 #![tactic(auto)]
 
+mod clients;
 mod programs;
 mod runs;
 mod updates;
@@ -56,6 +57,7 @@ fn answer(alloc: Global, texts: &Texts, command: &str, words: &str) -> Result<St
         "points" => { updates::points(alloc, &texts.old, &texts.client, words) }
         "links" => updates::links(alloc, &texts.old, &texts.new, words),
         "transform" => { updates::transformed(alloc, &texts.old, &texts.new, words) }
+        "serve" => clients::kind(alloc, &texts.old, &texts.new, &texts.client, words),
         "name" => updates::merged(alloc, words),
         _ => bail!("no such command: {command}"),
     }
