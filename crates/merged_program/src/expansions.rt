@@ -1,8 +1,9 @@
 //! Statements that no source has: those that stand for points, forces and picks, and the bodies of wrappers
 //! and of `main`. The only error of each function is want of memory.
 
-ghost use Rattle.std.specs.Prelude.{◌≡◌, IfOk, Some, map, true, false};
+ghost use Rattle.std.specs.Prelude.{◌≡◌, IfOk, Some, [], map, true, false};
 ghost use Rattle.c_lang.specs.Trees.{stmt_of, stmts_of, expr_of, variable, return_with};
+ghost use Rattle.c_lang.specs.declared.stmt.Stmt.TheVariants as stmt;
 ghost use Rattle.merged_program.specs.Names.{now_name, result_name};
 ghost use Rattle.merged_program.specs.Statements as spec;
 
@@ -33,18 +34,35 @@ fn test(alloc: Global, op: Op, name: &[u8]) -> Result<Expr, AllocError>
     Ok(Expr::Bin(op, variable, zero))
 }
 
-/// Whether the update has happened.
-pub fn is_updated(alloc: Global) -> Result<Expr, AllocError>
-    ensures { IfOk result (λ e. e ≡ expr_of (spec.is_set now_name)) }
+// An `if` with no `else`, on a variable compared with 0.
+fn when(alloc: Global, pos: Pos, op: Op, name: &[u8], yes: Items<Stmt>) -> Result<Stmt, AllocError>
+    ensures { IfOk result (λ s. s ≡ stmt.If pos (expr_of (spec.with_zero op name.now)) yes []) }
 {
-    test(alloc, Op::Ne, NOW)
+    let cond = test(alloc, op, name)?;
+    Ok(Stmt::If {
+        pos,
+        cond,
+        yes,
+        no: Items::new(alloc),
+    })
 }
 
-// Whether the update hasn't happened.
-fn is_not_updated(alloc: Global) -> Result<Expr, AllocError>
-    ensures { IfOk result (λ e. e ≡ expr_of (spec.is_zero now_name)) }
+/// An `if` on whether the update has happened.
+pub fn by_version(
+    alloc: Global,
+    pos: Pos,
+    new: Items<Stmt>,
+    old: Items<Stmt>,
+) -> Result<Stmt, AllocError>
+    ensures { IfOk result (λ s. s ≡ stmt.If pos (expr_of (spec.is_set now_name)) new old) }
 {
-    test(alloc, Op::Eq, NOW)
+    let cond = test(alloc, Op::Ne, NOW)?;
+    Ok(Stmt::If {
+        pos,
+        cond,
+        yes: new,
+        no: old,
+    })
 }
 
 // The flag is set, and the transformer runs.
@@ -73,13 +91,7 @@ fn test_choice(alloc: Global, pos: Pos) -> Result<Stmt, AllocError>
     ensures { IfOk result (λ s. s ≡ stmt_of (spec.answered pos)) }
 {
     let yes = swap(alloc, pos)?;
-    let cond = test(alloc, Op::Ne, CHOICE)?;
-    Ok(Stmt::If {
-        pos,
-        cond,
-        yes,
-        no: Items::new(alloc),
-    })
+    when(alloc, pos, Op::Ne, CHOICE, yes)
 }
 
 fn question(alloc: Global, pos: Pos, k: u32) -> Result<Items<Stmt>, AllocError>
@@ -101,13 +113,7 @@ pub fn asking(alloc: Global, pos: Pos, k: u32) -> Result<Stmt, AllocError>
     ensures { IfOk result (λ s. s ≡ stmt_of (spec.asking pos k)) }
 {
     let yes = question(alloc, pos, k)?;
-    let cond = is_not_updated(alloc)?;
-    Ok(Stmt::If {
-        pos,
-        cond,
-        yes,
-        no: Items::new(alloc),
-    })
+    when(alloc, pos, Op::Eq, NOW, yes)
 }
 
 /// A client's force.
@@ -115,13 +121,7 @@ pub fn forcing(alloc: Global, pos: Pos) -> Result<Stmt, AllocError>
     ensures { IfOk result (λ s. s ≡ stmt_of (spec.forcing pos)) }
 {
     let yes = swap(alloc, pos)?;
-    let cond = is_not_updated(alloc)?;
-    Ok(Stmt::If {
-        pos,
-        cond,
-        yes,
-        no: Items::new(alloc),
-    })
+    when(alloc, pos, Op::Eq, NOW, yes)
 }
 
 fn arguments(alloc: Global, params: &[(Kind, Name)]) -> Result<Items<Expr>, AllocError>
@@ -225,8 +225,7 @@ pub fn wrapping(
 {
     let yes = hand(alloc, pos, gives, new, params)?;
     let no = hand(alloc, pos, gives, old, params)?;
-    let cond = is_updated(alloc)?;
-    Ok(Stmt::If { pos, cond, yes, no })
+    by_version(alloc, pos, yes, no)
 }
 
 /// `return 0;`.

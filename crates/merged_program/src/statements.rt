@@ -7,7 +7,7 @@ ghost use Rattle.c_lang.specs.Trees.{expression_of, statement_of};
 ghost use Rattle.update_semantics.specs.Linked.{provenance_of};
 ghost use Rattle.merged_program.specs.Code.Built as built;
 
-use crate::expansions::{asking, forcing, is_updated};
+use crate::expansions::{asking, by_version, forcing};
 use crate::expressions::{arguments, boxed, dest, optional, renamed};
 use crate::names::{function, variable};
 use c_lang::{Dest, Expr, Name, Pos, Stmt};
@@ -318,8 +318,7 @@ fn pick(
 {
     let yes = one(alloc, meanings, origin, after)?;
     let no = one(alloc, meanings, origin, before)?;
-    let cond = is_updated(alloc)?;
-    Ok(Stmt::If { pos, cond, yes, no })
+    by_version(alloc, pos, yes, no)
 }
 
 /// The statements of a body.
