@@ -19,7 +19,7 @@ use Rattle.c_types.specs.Bodies.{body_of}
 use Rattle.c_types.specs.Expressions.{own_kind, place_of, resolved_name, resolved_literal, resolved, or_int, kind_of_element}
 use Rattle.c_types.specs.Calls.{place_in, element_kind, ints, resolved_args, resolved_call, picked, places_of}
 use Rattle.c_types.specs.Statements.{scope_after, block_in, entered, after_block, resolved_statement, resolved_list, begun, resolved_picked, resolved_pick}
-use Rattle.c_types.specs.Functions.{body_scope, resolved_func, scope_of, with_params, resolved_from}
+use Rattle.c_types.specs.Functions.{resolved_func, scope_of, with_params, resolved_from}
 use Rattle.c_types.specs.Programs.{with_func, with_globals, outside_of, resolved_funcs, resolved_program}
 use Rattle.c_types.specs.Typing.{IsValue, IsFunction, IsLiteral, IsTyped, AreArguments, IsCall, IsCallBy, IsReturn, IsTypedStatement, AreTyped, IsPicked, IsPick}
 use Rattle.c_types.specs.Types.{IsTypedFunc, AreTypedFuncs, Types, IsTypedFrom}

@@ -20,8 +20,8 @@ use Rattle.c_types.specs.Scopes.{Scope, wrong_fresh}
 use Rattle.c_lang.specs.Kinds.{same_kind, same_kinds, same_result}
 use Rattle.c_types.specs.Checks.{at_place, first}
 use Rattle.c_types.specs.Endings.{can_end}
-use Rattle.c_types.specs.Statements.{block_in, entered, refusal_in, begun, refusal_of_body}
-use Rattle.c_types.specs.Functions.{kinds_of, is_wide, any_wide, wrong_params_count, scope_of, with_param, params_block, wrong_params, is_main, wrong_end, wrong_head, body_scope, refusal_of_func, with_params, refusal_from}
+use Rattle.c_types.specs.Statements.{block_in, begun, refusal_of_body}
+use Rattle.c_types.specs.Functions.{kinds_of, is_wide, any_wide, wrong_params_count, scope_of, with_param, params_block, wrong_params, is_main, wrong_end, wrong_head, refusal_of_func, with_params, refusal_from}
 use Rattle.c_types.specs.Programs.{with_global, with_globals, with_func, with_funcs, outside_of, wrong_again, wrong_initial, early_number, wrong_shape, cells_of, wrong_cells, wrong_global, refusal_of_globals, wrong_match, wrong_proto, refusal_of_protos, refusal_of_funcs, has_main, wrong_main, first_early, first_line, refusal_of_declarations, refusal_of_whole, first_refusal}
 use Rattle.c_lang.specs.Limits.{cell_limit, parameter_limit}
 use Rattle.c_lang.specs.Refusals as numbers

@@ -6,7 +6,6 @@ use Rattle.c_lang.specs.Names.{Bytes}
 use Rattle.c_lang.specs.Limits.{cell_limit, element_limit}
 use Rattle.c_lang.specs.Kinds.{same_kinds, same_result}
 use Rattle.c_lang.specs.declared.unit.Unit.{Unit}
-use Rattle.c_lang.specs.declared.unit.Unit.TheVariants as unit
 use Rattle.c_lang.specs.declared.unit.Pos.{Pos}
 use Rattle.c_lang.specs.declared.refusal.Refusal.{Refusal}
 use Rattle.c_lang.specs.declared.refusal.Fail.{Fail}

@@ -21,7 +21,10 @@ pub struct Picks {
 // By hand, so that a proof has one step for each pair of tables that is dropped.
 impl Drop for Picks {
     fn drop(self) {
-        let Picks { after: _after, before: _before } = self;
+        let Picks {
+            after: _after,
+            before: _before,
+        } = self;
     }
 }
 

@@ -20,7 +20,10 @@ pub struct Typed {
 // By hand, so that a proof has one step for each typed program that is dropped.
 impl Drop for Typed {
     fn drop(self) {
-        let Typed { unit: _unit, program: _program } = self;
+        let Typed {
+            unit: _unit,
+            program: _program,
+        } = self;
     }
 }
 

@@ -1,6 +1,6 @@
 -- A client's resolved form spells what a name means at the place where it stands: a function that one version has alone
 -- has that version's prefix, as in a transformer.
-use Rattle.std.specs.Prelude.{if◌then◌else◌, List, map, Option, Some, None}
+use Rattle.std.specs.Prelude.{if◌then◌else◌, map, Option, Some, None}
 use Rattle.std.specs.Option.{option_map}
 use Rattle.c_lang.specs.Names.{Bytes}
 use Rattle.c_lang.specs.Trees.{Expression, literal, variable, element, function, null, negation, logical_not, binary, Statement, Statements, skip, set, set_element, call, call_by, if_else, while_loop, break_loop, return_with, assert_that, input, output, point, choice, force, pick, none, more, stmts_of}

@@ -18,7 +18,7 @@ use Rattle.c_types.specs.Endings.{can_end}
 use Rattle.c_types.specs.Functions.{kinds_of, is_main, body_scope}
 use Rattle.c_types.specs.Names.{Entries}
 use Rattle.c_types.specs.Plain.{plain_expression, plain_statement, plain_statements, plain_func, built_func, PlainFunc}
-use Rattle.c_types.specs.Statements.{block_in, entered, begun}
+use Rattle.c_types.specs.Statements.{block_in, begun}
 use Rattle.c_types.specs.Types.{AreNarrow, IsTypedFunc}
 use Rattle.version_names.specs.Merged.{merged_name}
 use Rattle.version_names.specs.Provenance.{Provenance}

@@ -14,7 +14,7 @@ use Rattle.c_types.specs.Names.{Cell, Entries, added}
 use Rattle.c_types.specs.Scopes.{Scope, Block, names_of, with_dest}
 use Rattle.c_types.specs.Endings.{ends, can_end}
 use Rattle.c_types.specs.Statements.{dest_of, with_locals, scope_after, block_in, entered, resolved_list, begun}
-use Rattle.c_types.specs.Functions.{kinds_of, scope_of, with_param, with_params, params_block, is_main, body_scope, resolved_func, IsPlain}
+use Rattle.c_types.specs.Functions.{kinds_of, scope_of, with_param, with_params, params_block, is_main, body_scope, resolved_func}
 use Rattle.c_types.specs.Typing.{AreTyped}
 use Rattle.c_types.specs.Types.{AreNarrow, AreParams, IsTypedFunc}
 use Rattle.c_types.specs.Plain.{plain_statements, plain_func, built_func}

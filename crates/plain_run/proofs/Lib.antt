@@ -1,10 +1,11 @@
 pub mod Simulation
 pub mod ArithmeticLaws
-pub mod Levels
+pub mod EvalLaws
 pub mod FrameLaws
 pub mod TableLaws
 pub mod StoreLaws
 pub mod CallLaws
+pub mod ArgumentLaws
 pub mod ActionLaws
 pub mod StepLaws
 pub mod MachineLaws

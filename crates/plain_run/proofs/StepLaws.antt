@@ -34,7 +34,7 @@ module _ {X Y F G O : Type 0} (see : Sees X Y F O) (R : Rules F G O) (g : G) (fs
   acts items rest t s action behind_is same asked =
       subst (λ u. steps.act R.access R.special g (seen_with see rest f) fs u (out-Stmt u) ≡ done R g (behind items) fs action) (sym same)
       (subst (λ i. steps.act R.access R.special g (seen_with see i f) fs s (out-Stmt s) ≡ done R g (behind items) fs action) (sym behind_is)
-      (sym (done-asked R g (behind items) fs s (out-Stmt s) action (IsDecided see R g f s) (λ a d. d (behind_first items) fs) asked)))
+      (sym (done-asked R g (behind items) fs s action (IsDecided see R g f s) (out-Stmt s) (λ a d. d (behind_first items) fs) asked)))
 
   step-statement : (items : List Item) (s : Stmt) (action : Action F) → Some s ≡ first_statement items → Asked s action
       → step (at_items items) ≡ done R g (behind items) fs action

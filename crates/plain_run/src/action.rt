@@ -2,8 +2,10 @@
 
 ghost use Rattle.std.specs.Prelude.{◌≡◌};
 ghost use Rattle.c_lang.specs.declared.stmt.Stmt.{out-Stmt};
-ghost use Rattle.plain_run.specs.Code.Actions.{IsAsked};
+ghost use Rattle.plain_run.specs.Code.Actions.{IsAsked, IsAskedWith, operand};
 ghost use Rattle.plain_run.specs.Code.Scopes.{look_in};
+ghost use Rattle.plain_run.specs.Code.SeenActions.{seen_operand};
+ghost use Rattle.plain_run.specs.Values.{seen_value};
 
 use crate::environment::{Decision, Environment};
 use crate::run::Run;
@@ -12,7 +14,6 @@ use c_lang::{Dest, Expr, Name, Pos, Stmt, Trap};
 use std::slice;
 
 /// What is to be done to the run, with all values that it takes.
-#[derive(Clone, Copy)]
 pub enum Action<'p, F> {
     Skip,
     Enter(&'p [Stmt]),
@@ -30,6 +31,32 @@ pub enum Action<'p, F> {
     /// The update where the answer isn't 0.
     Ask(u32),
     Update,
+}
+
+// The expression that a statement evaluates first, and where a trap in it is.
+fn operand(statement: &Stmt) -> Option<(&Expr, Pos)>
+    ensures { seen_operand result ≡ operand (out-Stmt statement.entry.now) }
+{
+    match statement {
+        Stmt::Set { pos, value, .. } | Stmt::Output { pos, value } => Some((value, *pos)),
+        Stmt::SetElem { pos, index, .. } => Some((index, *pos)),
+        Stmt::If { pos, cond, .. } | Stmt::While { pos, cond, .. } | Stmt::Assert { pos, cond } => {
+            Some((cond, *pos))
+        }
+        Stmt::Return { pos, value } => match value {
+            Some(value) => Some((value, *pos)),
+            None => None,
+        },
+        Stmt::Skip { .. }
+        | Stmt::Call { .. }
+        | Stmt::CallBy { .. }
+        | Stmt::Break { .. }
+        | Stmt::Input { .. }
+        | Stmt::Choice { .. }
+        | Stmt::Point { .. }
+        | Stmt::Force { .. }
+        | Stmt::Pick { .. } => None,
+    }
 }
 
 impl<'p, E: Environment<'p>> Run<'p, E> {
@@ -58,28 +85,22 @@ impl<'p, E: Environment<'p>> Run<'p, E> {
         }
     }
 
-    // What the statement asks for.
-    pub(crate) fn asked(&self, statement: &'p Stmt) -> Action<'p, E::Function>
-        ensures { IsAsked (IsDecided E.seen (E.rules self.now.environment) (E.state self.now.environment) self.now.stack.top
+    // What the statement asks for once its operand has this value.
+    fn asked_with(&self, statement: &'p Stmt, value: Value<E::Function>) -> Action<'p, E::Function>
+        ensures { IsAskedWith (IsDecided E.seen (E.rules self.now.environment) (E.state self.now.environment) self.now.stack.top
             statement.entry.now) (E.rules self.now.environment).access.same
             (look_in E.seen (E.rules self.now.environment) (E.state self.now.environment) self.now.stack.top)
-            statement.entry.now (out-Stmt statement.entry.now) (seen_action E.seen.function result) }
+            statement.entry.now (out-Stmt statement.entry.now) (seen_value E.seen.function value) (seen_action E.seen.function result) }
     {
         match statement {
-            Stmt::Set { pos, dest, value } => match self.eval(value) {
-                Ok(value) => Action::Store(dest, value),
-                Err(trap) => Action::Fault(trap, *pos),
-            },
+            Stmt::Set { dest, .. } => Action::Store(dest, value),
             Stmt::SetElem {
                 pos,
                 array,
-                index,
-                value,
-            } => match self.eval(index) {
-                Ok(index) => match self.eval(value) {
-                    Ok(value) => Action::StoreElement(array, index.number(), value.number(), *pos),
-                    Err(trap) => Action::Fault(trap, *pos),
-                },
+                value: element,
+                ..
+            } => match self.eval(element) {
+                Ok(element) => Action::StoreElement(array, value.number(), element.number(), *pos),
                 Err(trap) => Action::Fault(trap, *pos),
             },
             Stmt::Call {
@@ -97,52 +118,50 @@ impl<'p, E: Environment<'p>> Run<'p, E> {
                 pointer,
                 args,
             } => Action::Call(self.value(pointer), args.as_slice(), dest, *pos),
-            Stmt::If { pos, cond, yes, no } => match self.eval(cond) {
-                Ok(value) => {
-                    if value.is_zero() {
-                        Action::Enter(no.as_slice())
-                    } else {
-                        Action::Enter(yes.as_slice())
-                    }
+            Stmt::If { yes, no, .. } => {
+                if value.is_zero() {
+                    Action::Enter(no.as_slice())
+                } else {
+                    Action::Enter(yes.as_slice())
                 }
-                Err(trap) => Action::Fault(trap, *pos),
-            },
-            Stmt::While { pos, cond, body } => match self.eval(cond) {
-                Ok(value) => {
-                    if value.is_zero() {
-                        Action::Skip
-                    } else {
-                        Action::Loop(body.as_slice(), statement)
-                    }
+            }
+            Stmt::While { body, .. } => {
+                if value.is_zero() {
+                    Action::Skip
+                } else {
+                    Action::Loop(body.as_slice(), statement)
                 }
-                Err(trap) => Action::Fault(trap, *pos),
-            },
+            }
             Stmt::Break { .. } => Action::Leave,
-            Stmt::Return { pos, value } => match value {
-                None => Action::Return(Value::Num(0)),
-                Some(value) => match self.eval(value) {
-                    Ok(value) => Action::Return(value),
-                    Err(trap) => Action::Fault(trap, *pos),
-                },
-            },
-            Stmt::Assert { pos, cond } => match self.eval(cond) {
-                Ok(value) => {
-                    if value.is_zero() {
-                        Action::Fault(Trap::Assert, *pos)
-                    } else {
-                        Action::Skip
-                    }
+            Stmt::Return { .. } => Action::Return(value),
+            Stmt::Assert { pos, .. } => {
+                if value.is_zero() {
+                    Action::Fault(Trap::Assert, *pos)
+                } else {
+                    Action::Skip
                 }
-                Err(trap) => Action::Fault(trap, *pos),
-            },
+            }
             Stmt::Input { dest, .. } => Action::Input(dest),
-            Stmt::Output { pos, value } => match self.eval(value) {
-                Ok(value) => Action::Output(value.number()),
-                Err(trap) => Action::Fault(trap, *pos),
-            },
+            Stmt::Output { .. } => Action::Output(value.number()),
             Stmt::Choice { dest, k, .. } => Action::Choice(dest, *k),
             Stmt::Skip { .. } => Action::Skip,
             Stmt::Point { .. } | Stmt::Force { .. } | Stmt::Pick { .. } => self.decided(statement),
+        }
+    }
+
+    // What the statement asks for.
+    pub(crate) fn asked(&self, statement: &'p Stmt) -> Action<'p, E::Function>
+        ensures { IsAsked (IsDecided E.seen (E.rules self.now.environment) (E.state self.now.environment) self.now.stack.top
+            statement.entry.now) (E.rules self.now.environment).access.same
+            (look_in E.seen (E.rules self.now.environment) (E.state self.now.environment) self.now.stack.top)
+            statement.entry.now (out-Stmt statement.entry.now) (seen_action E.seen.function result) }
+    {
+        match operand(statement) {
+            None => self.asked_with(statement, Value::Num(0)),
+            Some((expr, pos)) => match self.eval(expr) {
+                Ok(value) => self.asked_with(statement, value),
+                Err(trap) => Action::Fault(trap, pos),
+            },
         }
     }
 }

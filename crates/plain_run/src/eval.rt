@@ -1,9 +1,9 @@
 //! The value of an expression.
 
-ghost use Rattle.std.specs.Prelude.{◌≡◌, IfOk, List, ℕ};
+ghost use Rattle.std.specs.Prelude.{◌≡◌, IfOk, List, ℕ, Ok};
 ghost use Rattle.c_lang.specs.Trees.{expression_of};
 ghost use Rattle.c_lang.specs.Evaluation as evaluation;
-ghost use Rattle.c_lang.specs.Evaluation.{ev, element_at};
+ghost use Rattle.c_lang.specs.Evaluation.{ev, element_at, joined};
 ghost use Rattle.plain_run.specs.Code.Arithmetic.{numbered};
 ghost use Rattle.plain_run.specs.Code.Calls.{seen_arguments, values_in};
 ghost use Rattle.plain_run.specs.Environments.{seen_callee};
@@ -12,7 +12,7 @@ ghost use Rattle.plain_run.specs.Values.{seen_value, seen_answer};
 use crate::environment::{Callee, Environment, Look};
 use crate::frame::Frame;
 use crate::run::Run;
-use crate::value::{Answer, Value, applied, negated, truth};
+use crate::value::{Answer, Value, applied, negated, settled, truth};
 use c_lang::{Expr, Name, Op, Trap};
 use std::alloc::{AllocError, Global};
 
@@ -104,8 +104,31 @@ impl<'p, E: Look> Scope<'_, 'p, E> {
         answer::<E>(applied(op, a, b, same))
     }
 
+    // What an operator gives with this left operand. `&&` and `||` read the right one only where the left
+    // one doesn't decide.
+    #[cycle(eval)]
+    fn joined(
+        &self,
+        op: Op,
+        left: Value<Callee<'p, E::Function>>,
+        right: &'p Expr,
+    ) -> Answer<Callee<'p, E::Function>>
+        ensures { seen_answer (callee_in E.seen (E.rules self.now.environment.now) (E.state self.now.environment.now) self.now.frame.now) result ≡
+            joined (E.rules self.now.environment.now).access.same op
+            (Ok (seen_value (callee_in E.seen (E.rules self.now.environment.now) (E.state self.now.environment.now) self.now.frame.now) left.entry))
+            (ev (E.rules self.now.environment.now).access.same (look_in E.seen (E.rules self.now.environment.now) (E.state self.now.environment.now) self.now.frame.now) (expression_of right.now)) }
+    {
+        match settled(op, left.number()) {
+            Some(number) => Ok(Value::Num(number)),
+            None => match self.eval(right) {
+                Ok(right) => self.applied(op, left, right),
+                Err(trap) => Err(trap),
+            },
+        }
+    }
+
     // The value of an expression, or the trap that its evaluation ends in.
-    #[tactic(auto, using(crate::proofs::Levels::at_levels, crate::proofs::Levels::at_values))]
+    #[cycle(eval)]
     fn eval(&self, expr: &'p Expr) -> Answer<Callee<'p, E::Function>>
         ensures { seen_answer (callee_in E.seen (E.rules self.now.environment.now) (E.state self.now.environment.now) self.now.frame.now) result ≡
             ev (E.rules self.now.environment.now).access.same (look_in E.seen (E.rules self.now.environment.now) (E.state self.now.environment.now) self.now.frame.now) (expression_of expr.now) }
@@ -113,41 +136,24 @@ impl<'p, E: Look> Scope<'_, 'p, E> {
         match expr {
             Expr::Lit(number) => Ok(Value::Num(*number)),
             Expr::Var(name) => Ok(known::<E>(self.value(name))),
-            Expr::Elem(array, index) => {
-                let index = self.eval(index.get())?;
-                self.element(array, index.number())
-            }
+            Expr::Elem(array, index) => match self.eval(index.get()) {
+                Ok(index) => self.element(array, index.number()),
+                Err(trap) => Err(trap),
+            },
             Expr::FunRef(name) => Ok(Value::Code(Callee::Named(name))),
             Expr::Null => Ok(Value::Null),
-            Expr::Neg(operand) => {
-                let operand = self.eval(operand.get())?;
-                answer::<E>(negated(operand.number()))
-            }
-            Expr::Not(operand) => {
-                let operand = self.eval(operand.get())?;
-                Ok(Value::Num(truth(operand.is_zero())))
-            }
-            Expr::Bin(Op::And, left, right) => {
-                let left = self.eval(left.get())?;
-                if left.is_zero() {
-                    return Ok(Value::Num(0));
-                }
-                let right = self.eval(right.get())?;
-                Ok(Value::Num(truth(!right.is_zero())))
-            }
-            Expr::Bin(Op::Or, left, right) => {
-                let left = self.eval(left.get())?;
-                if !left.is_zero() {
-                    return Ok(Value::Num(1));
-                }
-                let right = self.eval(right.get())?;
-                Ok(Value::Num(truth(!right.is_zero())))
-            }
-            Expr::Bin(op, left, right) => {
-                let left = self.eval(left.get())?;
-                let right = self.eval(right.get())?;
-                self.applied(*op, left, right)
-            }
+            Expr::Neg(operand) => match self.eval(operand.get()) {
+                Ok(operand) => answer::<E>(negated(operand.number())),
+                Err(trap) => Err(trap),
+            },
+            Expr::Not(operand) => match self.eval(operand.get()) {
+                Ok(operand) => Ok(Value::Num(truth(operand.is_zero()))),
+                Err(trap) => Err(trap),
+            },
+            Expr::Bin(op, left, right) => match self.eval(left.get()) {
+                Ok(left) => self.joined(*op, left, right.get()),
+                Err(trap) => Err(trap),
+            },
         }
     }
 }

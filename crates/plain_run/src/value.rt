@@ -44,6 +44,27 @@ pub(crate) fn truth(truth: bool) -> i32
     if truth { 1 } else { 0 }
 }
 
+// What `&&` and `||` give without their right operand, where the left one decides.
+pub(crate) fn settled(op: Op, left: i32) -> Option<i32>
+    ensures { result ≡ spec.settled op left }
+{
+    match op {
+        Op::And => { if left == 0 { Some(0) } else { None } }
+        Op::Or => { if left == 0 { None } else { Some(1) } }
+        Op::Mul
+        | Op::Div
+        | Op::Rem
+        | Op::Add
+        | Op::Sub
+        | Op::Lt
+        | Op::Le
+        | Op::Gt
+        | Op::Ge
+        | Op::Eq
+        | Op::Ne => None,
+    }
+}
+
 pub(crate) fn negated(number: i32) -> Result<i32, Trap>
     ensures { result ≡ spec.negated number }
 {

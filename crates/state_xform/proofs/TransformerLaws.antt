@@ -14,22 +14,17 @@ use Rattle.c_lang.specs.declared.program.GlobalVar.{GlobalVar}
 use Rattle.c_lang.specs.declared.program.Func.{Func}
 use Rattle.c_lang.specs.declared.program.Program.{Program}
 use Rattle.c_types.specs.Bodies.{body_of}
-use Rattle.c_types.specs.Names.{Entries, found, smaller}
+use Rattle.c_types.specs.Names.{Entries, found}
 use Rattle.c_types.specs.Scopes.{names_version}
 use Rattle.c_types.specs.Checks.{first as or_then, Checked}
 use Rattle.c_types.specs.Functions.{refusal_of_func}
-use Rattle.c_types.specs.Programs.{with_func, with_funcs, wrong_global, refusal_of_protos, first_early}
-use Rattle.c_lang.specs.Limits.{cell_limit}
+use Rattle.c_types.specs.Programs.{with_func, first_early}
 use Rattle.c_lang.specs.Refusals as numbers
-use Rattle.c_types.proofs.Combined.{some_none, both_none, first_none, none_first, at_none, test_false, not_some, either_false}
+use Rattle.c_types.proofs.Combined.{some_none, first_none, none_first, test_false, not_some, either_false}
 use Rattle.version_names.specs.Merged.{merged_name}
 use Rattle.version_names.specs.Parts.{Parts, parts_in, in_version, part_at, part_of, is_changed_cell, IsLinked}
 use Rattle.version_names.specs.declared.links.Links.{Links}
 use Rattle.version_names.specs.declared.part.Origin.TheVariants as origin
-use Rattle.version_names.specs.declared.part.Version.{Version}
-use Rattle.version_names.specs.declared.part.Version.TheVariants as version
-use Rattle.version_names.specs.declared.part.Sort2.{Sort2}
-use Rattle.version_names.specs.declared.part.Sort2.TheVariants as sort
 use Rattle.state_xform.specs.Refusals.{wrong_own_name, is_old, is_new, refusal_of_own, is_changed, not_covered, refusal_of_coverage, refusal_of_started, refusal_of_whole, no_start, first_refusal, resolved_transformer}
 use Rattle.state_xform.specs.Transformers.{IsOwnName, AreOwnFuncs, start_name, is_start, is_covered, changed_globals, IsTransformer}
 use Rattle.state_xform.specs.Kept.{IsChecked}
@@ -37,7 +32,7 @@ use Rattle.state_xform.specs.Visible.{visible}
 use Rattle.c_types.specs.Beside.{refusal_of_declarations}
 use Rattle.c_types.proofs.BesideLaws.{declarations_sound, declarations_complete}
 use Rattle.version_names.proofs.PartLaws.{nowhere, no_version}
-use Rattle.c_types.proofs.ProgramsTyped.{protos_sound, protos_complete, func_sound, func_complete, early_sound}
+use Rattle.c_types.proofs.ProgramsTyped.{func_sound, func_complete, early_sound}
 
 -- ---- functions
 

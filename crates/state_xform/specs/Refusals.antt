@@ -12,12 +12,11 @@ use Rattle.c_lang.specs.declared.program.GlobalVar.{GlobalVar}
 use Rattle.c_lang.specs.declared.program.Func.{Func}
 use Rattle.c_lang.specs.declared.program.Program.{Program}
 use Rattle.c_types.specs.Bodies.{body_of}
-use Rattle.c_types.specs.Names.{Entries, found, smaller}
+use Rattle.c_types.specs.Names.{Entries, found}
 use Rattle.c_types.specs.Scopes.{names_version}
-use Rattle.c_types.specs.Checks.{at_place, first}
+use Rattle.c_types.specs.Checks.{first}
 use Rattle.c_types.specs.Functions.{refusal_of_func}
-use Rattle.c_types.specs.Programs.{with_func, with_funcs, wrong_global, refusal_of_protos, resolved_funcs, first_early, first_line}
-use Rattle.c_lang.specs.Limits.{cell_limit}
+use Rattle.c_types.specs.Programs.{with_func, resolved_funcs, first_early, first_line}
 use Rattle.version_names.specs.Merged.{merged_name}
 use Rattle.version_names.specs.declared.part.Origin.TheVariants as origin
 use Rattle.version_names.specs.declared.part.Version.TheVariants as version

@@ -16,10 +16,7 @@ use Rattle.version_names.specs.declared.part.Version.{Version}
 use Rattle.version_names.specs.declared.part.Version.TheVariants as version
 use Rattle.version_names.specs.declared.part.Part.{Part}
 use Rattle.version_names.specs.declared.part.Part.TheVariants.{Both, Old, New}
-use Rattle.version_names.specs.declared.part.Sort2.{Sort2}
 use Rattle.version_names.specs.declared.part.Sort2.TheVariants as sort
-use Rattle.version_names.specs.declared.links.Links.{Links}
-use Rattle.version_names.specs.Code.Tables as tables
 use Rattle.version_names.specs.Parts.{Parts}
 use Rattle.c_types.specs.Beside.{own_names}
 

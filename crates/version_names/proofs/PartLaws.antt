@@ -1,5 +1,5 @@
 -- A name that no version has stands nowhere.
-use Rattle.std.proofs.Common.{◌≡◌, Bool, true, false, ◌||◌, Option, None, is_some, refl}
+use Rattle.std.proofs.Common.{◌≡◌, Bool, false, ◌||◌, None, is_some, refl}
 use Rattle.c_lang.specs.Names.{Bytes}
 use Rattle.c_types.proofs.Combined.{not_some, either_false}
 use Rattle.version_names.specs.Parts.{Parts, in_version}

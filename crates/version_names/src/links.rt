@@ -32,7 +32,11 @@ pub struct Links {
 // By hand, so that a proof has one step for each pair of versions that is dropped.
 impl Drop for Links {
     fn drop(self) {
-        let Links { cells: _cells, codes: _codes, changed: _changed } = self;
+        let Links {
+            cells: _cells,
+            codes: _codes,
+            changed: _changed,
+        } = self;
     }
 }
 

@@ -160,7 +160,7 @@ module _ (outside : Entries) where
     statement_apart block scope at (if_else p a xs ys) e free new h =
         let first = all_apart (block_in scope) (entered scope xs) at xs (sees_entered outside scope xs e) free new h.1 in
         let second = all_apart (block_in scope) (entered (after_block scope xs) ys) (past_all at xs) ys
-            (sees_entered outside (after_block scope xs) ys (sees_after_block outside scope xs e)) free first.names h.2 in
+        (sees_entered outside (after_block scope xs) ys (sees_after_block outside scope xs e)) free first.names h.2 in
         record { says = (record { free = free; declared = new; result = tt }, first.says, second.says); names = second.names }
     statement_apart block scope at (while_loop p a xs) e free new h =
         let body = all_apart (block_in scope) (entered scope xs) (in_loop at) xs (sees_entered outside scope xs e) free new h.1 in

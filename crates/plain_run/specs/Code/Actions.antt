@@ -1,6 +1,6 @@
 -- A step in two halves: what a statement asks for, and what is done then. The second half alone
 -- changes the configuration.
-use Rattle.std.specs.Prelude.{◌≡◌, ℕ, ℤ, pos, Bool, not, if◌then◌else◌, List, [], ◌∷◌, ◌++◌, map, Some, None, Ok, Err}
+use Rattle.std.specs.Prelude.{◌≡◌, ℕ, ℤ, pos, Bool, not, if◌then◌else◌, List, [], ◌∷◌, ◌++◌, map, Option, Some, None, Ok, Err}
 use Rattle.c_lang.specs.Names.{Bytes}
 use Rattle.c_lang.specs.Evaluation.{Look, ev}
 use Rattle.plain_run.specs.Environments.{Rules, swapped}
@@ -39,30 +39,53 @@ abbrev pub or_fault : {F : Type 0} → Answer F → Pos → (Value F → Action 
 or_fault (Ok v) p go = go v
 or_fault (Err t) p go = Fault t p
 
--- `same` compares functions. What a point, a force or a pick asks for is another definition's.
-abbrev pub asked : {F : Type 0} → (F → F → Bool) → Look F → Stmt → Stmt-F Stmt → Action F
-asked same look s (one.Set p d e) = or_fault (ev same look (expression_of e)) p (λ v. Store_value d v)
-asked same look s (one.SetElem p a i e) =
-    or_fault (ev same look (expression_of i)) p (λ at. or_fault (ev same look (expression_of e)) p (λ v. Store_element a (number at) (number v) p))
-asked same look s (one.Call p d f es) = Call (Code (look.code f)) es d p
-asked same look s (one.CallBy p d x es) = Call (look.value x) es d p
-asked same look s (one.If p e a b) = or_fault (ev same look (expression_of e)) p (λ v. Enter (if is_zero (number v) then b else a))
-asked same look s (one.While p e a) = or_fault (ev same look (expression_of e)) p (λ v. if is_zero (number v) then Skip else Loop a s)
-asked same look s (one.Break p) = Leave
-asked same look s (one.Return p None) = Return (Num (pos 0))
-asked same look s (one.Return p (Some e)) = or_fault (ev same look (expression_of e)) p (λ v. Return v)
-asked same look s (one.Assert p e) = or_fault (ev same look (expression_of e)) p (λ v. if is_zero (number v) then Fault Assert p else Skip)
-asked same look s (one.Input p d) = Input d
-asked same look s (one.Output p e) = or_fault (ev same look (expression_of e)) p (λ v. Output (number v))
-asked same look s (one.Choice p d k) = Choice d k
-asked same look s l = Skip
+-- the expression that a statement evaluates first, and where a trap in it is
+abbrev pub operand : Stmt-F Stmt → Option (Expr × Pos)
+operand (one.Set p d e) = Some (e, p)
+operand (one.SetElem p a i e) = Some (i, p)
+operand (one.If p e a b) = Some (e, p)
+operand (one.While p e a) = Some (e, p)
+operand (one.Return p (Some e)) = Some (e, p)
+operand (one.Assert p e) = Some (e, p)
+operand (one.Output p e) = Some (e, p)
+operand l = None
 
--- a point, a force or a pick asks for what the environment decides
-abbrev pub IsAsked : {F : Type 0} → (Action F → Type 0) → (F → F → Bool) → Look F → Stmt → Stmt-F Stmt → Action F → Type 0
-IsAsked IsDecided same look s (one.Point p k) action = IsDecided action
-IsAsked IsDecided same look s (one.Force p) action = IsDecided action
-IsAsked IsDecided same look s (one.Pick p a b) action = IsDecided action
-IsAsked IsDecided same look s l action = action ≡ asked same look s l
+-- What a statement asks for once that expression has the value v. `same` compares functions. What a point, a force or a pick
+-- asks for is another definition's.
+abbrev pub asked : {F : Type 0} → (F → F → Bool) → Look F → Stmt → Stmt-F Stmt → Value F → Action F
+asked same look s (one.Set p d e) v = Store_value d v
+asked same look s (one.SetElem p a i e) v = or_fault (ev same look (expression_of e)) p (λ w. Store_element a (number v) (number w) p)
+asked same look s (one.Call p d f es) v = Call (Code (look.code f)) es d p
+asked same look s (one.CallBy p d x es) v = Call (look.value x) es d p
+asked same look s (one.If p e a b) v = Enter (if is_zero (number v) then b else a)
+asked same look s (one.While p e a) v = if is_zero (number v) then Skip else Loop a s
+asked same look s (one.Break p) v = Leave
+asked same look s (one.Return p e) v = Return v
+asked same look s (one.Assert p e) v = if is_zero (number v) then Fault Assert p else Skip
+asked same look s (one.Input p d) v = Input d
+asked same look s (one.Output p e) v = Output (number v)
+asked same look s (one.Choice p d k) v = Choice d k
+asked same look s l v = Skip
+
+module _ {F : Type 0} (IsDecided : Action F → Type 0) (same : F → F → Bool) (look : Look F) (s : Stmt) where
+  -- a point, a force or a pick asks for what the environment decides
+  abbrev pub IsAskedWith : Stmt-F Stmt → Value F → Action F → Type 0
+  IsAskedWith (one.Point p k) v action = IsDecided action
+  IsAskedWith (one.Force p) v action = IsDecided action
+  IsAskedWith (one.Pick p a b) v action = IsDecided action
+  IsAskedWith l v action = action ≡ asked same look s l v
+
+  abbrev pub IsAskedAfter : Stmt-F Stmt → Answer F → Pos → Action F → Type 0
+  IsAskedAfter l (Ok v) p action = IsAskedWith l v action
+  IsAskedAfter l (Err t) p action = action ≡ Fault t p
+
+  -- 0 where nothing is evaluated, which is also what a function without a result returns
+  abbrev pub IsAskedBy : Stmt-F Stmt → Option (Expr × Pos) → Action F → Type 0
+  IsAskedBy l None action = IsAskedWith l (Num (pos 0)) action
+  IsAskedBy l (Some (e, p)) action = IsAskedAfter l (ev same look (expression_of e)) p action
+
+  abbrev pub IsAsked : Stmt-F Stmt → Action F → Type 0
+  IsAsked l action = IsAskedBy l (operand l) action
 
 module _ {F G O : Type 0} (R : Rules F G O) (g : G) (f : Frame F O) (fs : List (Frame F O)) where
   -- f doesn't have the statement any more

@@ -1,5 +1,5 @@
 -- The arithmetic of `int`, before its numbers are values.
-use Rattle.std.specs.Prelude.{ℤ, pos, ◌+ℤ◌, ◌-ℤ◌, ◌*ℤ◌, Bool, not, ◌&&◌, ◌||◌, int_lt, int_le, int_div, int_rem, if◌then◌else◌, Result, Ok, Err}
+use Rattle.std.specs.Prelude.{ℤ, pos, ◌+ℤ◌, ◌-ℤ◌, ◌*ℤ◌, Bool, not, ◌&&◌, ◌||◌, int_lt, int_le, int_div, int_rem, if◌then◌else◌, Option, Some, None, Result, Ok, Err}
 use Rattle.c_lang.specs.Values.{fits_int, is_zero}
 use Rattle.c_lang.specs.Values as spec
 use Rattle.c_lang.specs.declared.event.Trap.{Trap}
@@ -37,6 +37,12 @@ quotient a b = if is_zero b then Err Divide else in_int (int_div a b)
 
 abbrev pub remainder : ℤ → ℤ → Number
 remainder a b = if is_zero b then Err Divide else (if fits_int (int_div a b) then Ok (int_rem a b) else Err Overflow)
+
+-- what `&&` and `||` give without their right operand, where the left one decides
+abbrev pub settled : Op → ℤ → Option ℤ
+settled op.And a = if is_zero a then Some (pos 0) else None
+settled op.Or a = if is_zero a then None else Some (pos 1)
+settled o a = None
 
 -- `same` says whether the operands are the same value
 abbrev pub applied : Op → ℤ → ℤ → Bool → Number

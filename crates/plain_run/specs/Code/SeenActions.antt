@@ -1,8 +1,11 @@
 -- What the code's actions and decisions stand for.
-use Rattle.std.specs.Prelude.{◌≡◌, List, [], ◌∷◌}
+use Rattle.std.specs.Prelude.{◌≡◌, List, [], ◌∷◌, Option, Some, None}
+use Rattle.std.specs.Borrow.{Bor}
 use Rattle.c_lang.specs.Evaluation.{Look}
 use Rattle.c_lang.specs.Values.{Code}
+use Rattle.c_lang.specs.declared.expr.Expr.{Expr}
 use Rattle.c_lang.specs.declared.stmt.Stmt.{Stmt, out-Stmt}
+use Rattle.c_lang.specs.declared.unit.Pos.{Pos}
 use Rattle.plain_run.specs.Environments.{Rules, Sees}
 use Rattle.plain_run.specs.Steps as steps
 use Rattle.plain_run.specs.Steps.{Item}
@@ -31,6 +34,10 @@ seen_action see (action.Output z) = spec.Output z
 seen_action see (action.Choice d k) = spec.Choice d.now k
 seen_action see (action.Ask k) = spec.Ask k
 seen_action see action.Update = spec.Update
+
+abbrev pub seen_operand : Option (Bor Expr × Pos) → Option (Expr × Pos)
+seen_operand None = None
+seen_operand (Some o) = Some (o.0.now, o.1)
 
 abbrev pub decided_action : {F : Type 0} → Look F → Decision → spec.Action F
 decided_action look decision.Skip = spec.Skip

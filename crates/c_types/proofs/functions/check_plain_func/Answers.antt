@@ -1,9 +1,8 @@
-use Rattle.std.proofs.Common.{◌≡◌, ◌∙◌, Bool, false, ap, subst}
-use Rattle.std.specs.Result.{OnOk}
+use Rattle.std.proofs.Common.{◌≡◌, ◌∙◌, false, ap, subst}
 use Rattle.c_types.proofs.Combined.{on_ok}
 use Rattle.c_types.specs.Code.SeenScopes.{seen_scope}
 use Rattle.c_types.specs.Scopes.{Scope}
-use Rattle.c_types.specs.Functions.{IsFunc, IsPlain, start_of}
+use Rattle.c_types.specs.Functions.{IsFunc, IsPlain}
 use Rattle.c_types.proofs.FunctionLaws.{plain_start}
 use Rattle.c_types.proofs.functions.check_plain_func.Goals as goal
 

@@ -1,7 +1,5 @@
-use Rattle.std.proofs.Common.{◌∙◌}
 use Rattle.std.specs.Prelude.{Ok, Err}
-use Rattle.c_lang.specs.Names.{Bytes}
-use Rattle.client_specs.specs.Kept.{IsChecked, ClientProgram}
+use Rattle.client_specs.specs.Kept.{IsChecked}
 use Rattle.client_specs.proofs.ClientLaws.{checked}
 use Rattle.client_specs.proofs.client.check_client.Goals as goal
 

@@ -1,10 +1,7 @@
-use Rattle.std.proofs.Common.{◌∙◌, Option, Some, None, ap, cond, subst}
-use Rattle.std.specs.Prelude.{if◌then◌else◌}
-use Rattle.c_types.specs.Names.{Entries}
+use Rattle.std.proofs.Common.{◌∙◌, subst}
 use Rattle.c_types.specs.Scopes.{Scope}
 use Rattle.c_types.specs.Functions.{IsFunc}
 use Rattle.version_names.specs.Parts.{parts_in}
-use Rattle.client_specs.specs.Starts.{begins, start}
 use Rattle.client_specs.proofs.ClientLaws.{forcing_start}
 use Rattle.client_specs.proofs.functions.Checking.check_forcing.Goals as goal
 

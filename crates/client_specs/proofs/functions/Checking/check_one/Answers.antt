@@ -4,7 +4,7 @@ use Rattle.c_types.specs.Code.SeenScopes.{seen_scope}
 use Rattle.c_types.specs.Scopes.{Scope}
 use Rattle.c_types.specs.Functions.{IsFunc, start_of}
 use Rattle.version_names.specs.Parts.{parts_in}
-use Rattle.client_specs.specs.Starts.{begins, start}
+use Rattle.client_specs.specs.Starts.{begins}
 use Rattle.client_specs.proofs.ClientLaws.{quiet_start}
 use Rattle.client_specs.proofs.functions.Checking.check_one.Goals as goal
 
