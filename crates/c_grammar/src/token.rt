@@ -24,6 +24,11 @@ pub struct Token {
 // By hand, so that a proof has one step for each token that is dropped.
 impl Drop for Token {
     fn drop(self) {
-        let Token { what: _what, start: _start, end: _end, pos: _pos } = self;
+        let Token {
+            what: _what,
+            start: _start,
+            end: _end,
+            pos: _pos,
+        } = self;
     }
 }
