@@ -1,5 +1,5 @@
 -- Parameters that are bound from the last to the first.
-use Rattle.std.proofs.Common.{◌≡◌, ℕ, zero, suc, slice_get, map, ◌+◌, ◌-◌, ◌<◌, if◌then◌else◌, List, [], ◌∷◌, drop, Option, Some, refl, sym, ap, ap₂, ◌∙◌, arith}
+use Rattle.std.proofs.Common.{◌≡◌, ℕ, zero, suc, slice_get, map, ◌+◌, ◌-◌, ◌<◌, ◌≤◌, length, get_or, if◌then◌else◌, List, [], ◌∷◌, drop, Option, Some, refl, sym, ap, ap₂, ◌∙◌, arith}
 use Rattle.std.proofs.lemmas.List.{drop-drop}
 use Rattle.std.specs.Borrow.{Bor}
 use Rattle.std.specs.Option.{option_map}
@@ -19,7 +19,7 @@ use Rattle.plain_run.specs.Code.Calls.{first_or_zero}
 use Rattle.plain_run.specs.Code.Names.{Entries, seen_locals}
 use Rattle.plain_run.specs.Values.{seen_value}
 use Rattle.plain_run.proofs.StoreLaws.{all_names}
-use Rattle.plain_run.proofs.TableLaws.{same_name, seen-insert}
+use Rattle.plain_run.proofs.TableLaws.{drop-front, same_name, seen-insert}
 
 bound-first : {F : Type 0} (p : Kind × Bytes) (ps : List (Kind × Bytes)) (vs : List (spec.Value F)) (x : Bytes)
     → bound (p ∷ ps) vs x ≡ updated (bound ps (drop 1 vs)) p.1 (Some (first_or_zero vs)) x
@@ -36,6 +36,14 @@ bound-more {F = F} see old new k v p ps n vs low is name value before x =
     ∙ ap (λ (r : Option (spec.Value F)). if bytes_eq p.1 x then Some (first_or_zero (drop (n - 1) vs)) else r)
     (before x ∙ ap (λ ws. bound ps ws x) (sym (drop-drop 1 (n - 1) vs ∙ ap (λ m. drop m vs) next)))
     ∙ sym (bound-first p ps (drop (n - 1) vs) x)
+
+-- a turn of the loop that binds them
+pub bound-front : {X F : Type 0} (see : X → F) (old new : List (Bor Bytes × Value X)) (k : Bor Bytes) (v : Value X) (ps : List (Kind × Bytes)) (n : ℕ) (p : Kind × Bytes) (vs : List (spec.Value F))
+    → 0 < n → n ≤ length ps → p ≡ get_or ps (n - 1) p → new ≡ insert_entry same_name old k v → k.now ≡ p.1 → seen_value see v ≡ first_or_zero (drop (n - 1) vs)
+    → ((x : Bytes) → seen_locals see old x ≡ bound (drop n ps) (drop n vs) x) → (x : Bytes) → seen_locals see new x ≡ bound (drop (n - 1) ps) (drop (n - 1) vs) x
+bound-front see old new k v ps n p vs low high at is name value before x =
+    bound-more see old new k v p (drop n ps) n vs low is name value before x
+    ∙ ap (λ (qs : List (Kind × Bytes)). bound qs (drop (n - 1) vs) x) (sym (drop-front ps n p low high at))
 
 pub argument_at : {X F : Type 0} (see : X → F) (args : List (Value X)) (n : ℕ) (v : Value X) → Some v ≡ slice_get args n
     → seen_value see v ≡ first_or_zero (drop n (map (seen_value see) args))

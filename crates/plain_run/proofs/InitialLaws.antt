@@ -1,5 +1,5 @@
 -- Tables of the globals, filled from the last one.
-use Rattle.std.proofs.Common.{◌≡◌, List, ◌∷◌, Vec, Global, ℤ, refl}
+use Rattle.std.proofs.Common.{◌≡◌, List, ◌∷◌, Vec, Global, ℤ, Result, Ok, Err, IfOk, refl, ◌∙◌}
 use Rattle.std.specs.Borrow.{Bor}
 use Rattle.indexmap.specs.IndexMap.{insert_entry}
 use Rattle.c_lang.specs.Names.{Bytes}
@@ -25,3 +25,8 @@ pub HasArrays-more : (old new : Arrays) (k : Bor Bytes) (elements : Vec ℤ Glob
     → new ≡ insert_entry same_name old k elements → k.now ≡ g.name → elements.items ≡ shape_elements g.shape → HasArrays old globals → HasArrays new (g ∷ globals)
 HasArrays-more old new k elements g globals is name value has =
     IsFilled-more (λ (d : GlobalVar). d.name) global_named elements_or_none initial_elements old new k elements g globals (λ x. refl) is name value has
+
+-- what holds of a value for each n holds of it for one
+pub at_one : {T E X N : Type 0} (r : Result T E) (f : T → X) (y : N → X) (n : N) (z : X) → IfOk r (λ t. (m : N) → f t ≡ y m) → y n ≡ z → IfOk r (λ t. f t ≡ z)
+at_one (Ok t) f y n z holds is = holds n ∙ is
+at_one (Err e) f y n z holds is = tt

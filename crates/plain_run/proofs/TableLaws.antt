@@ -7,10 +7,8 @@ use Rattle.std.proofs.lemmas.Slice.Eq.{bytes_eq-Decides}
 use Rattle.indexmap.specs.IndexMap.{insert_entry}
 use Rattle.c_lang.specs.Names.{Bytes}
 use Rattle.plain_run.specs.Steps.{updated}
+pub use Rattle.plain_run.specs.Code.Names.{same_name}
 use Rattle.plain_run.specs.Code.Names.{found}
-
-abbrev pub same_name : Bor Bytes → Bor Bytes → Bool
-same_name k n = bytes_eq k.now n.now
 
 pub from_true : (x y : Bytes) → bytes_eq x y ≡ true → x ≡ y
 from_true x y = (bytes_eq-Decides x y).0
@@ -79,6 +77,9 @@ pub seen-insert : {X Y : Type 0} (see : Option X → Y) (entries : List (Bor Byt
 seen-insert see entries k v x = ap see (found-insert entries k v x) ∙ at_test see (bytes_eq k.now x) v (found entries x)
 
 -- ---- a table that is filled from the last declaration to the first, so that the first of one name counts
+
+pub one-before : (n m : ℕ) → n ≤ m → n - 1 ≤ m
+one-before n m within = omega arith
 
 -- the declarations from an index on, one further to the front
 pub drop-front : {D : Type 0} (all : List D) (n : ℕ) (d : D) → 0 < n → n ≤ length all → d ≡ get_or all (n - 1) d → drop (n - 1) all ≡ d ∷ drop n all

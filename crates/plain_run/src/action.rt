@@ -8,6 +8,7 @@ ghost use Rattle.plain_run.specs.Code.SeenActions.{seen_operand};
 ghost use Rattle.plain_run.specs.Values.{seen_value};
 
 use crate::environment::{Decision, Environment};
+use crate::frame::statements;
 use crate::run::Run;
 use crate::value::Value;
 use c_lang::{Dest, Expr, Name, Pos, Stmt, Trap};
@@ -120,16 +121,16 @@ impl<'p, E: Environment<'p>> Run<'p, E> {
             } => Action::Call(self.value(pointer), args.as_slice(), dest, *pos),
             Stmt::If { yes, no, .. } => {
                 if value.is_zero() {
-                    Action::Enter(no.as_slice())
+                    Action::Enter(statements(no))
                 } else {
-                    Action::Enter(yes.as_slice())
+                    Action::Enter(statements(yes))
                 }
             }
             Stmt::While { body, .. } => {
                 if value.is_zero() {
                     Action::Skip
                 } else {
-                    Action::Loop(body.as_slice(), statement)
+                    Action::Loop(statements(body), statement)
                 }
             }
             Stmt::Break { .. } => Action::Leave,

@@ -1,16 +1,17 @@
-ghost use Rattle.std.specs.Prelude.{◌≡◌, IfOk, map, drop, List, ℕ};
-ghost use Rattle.plain_run.specs.Steps.{Access, bound, frame_of};
+ghost use Rattle.std.specs.Prelude.{◌≡◌, [], IfOk, map, drop, List, ℕ};
+ghost use Rattle.c_lang.specs.declared.stmt.Dest.TheVariants.{Nowhere};
+ghost use Rattle.plain_run.specs.Steps.{Access, Does, bound, frame_of};
 ghost use Rattle.plain_run.specs.Environments.{func_or_none, seen_definition};
 ghost use Rattle.plain_run.specs.Code.Calls.{first_or_zero};
-ghost use Rattle.plain_run.specs.Code.Frames.{dest_of, seen_frame};
+ghost use Rattle.plain_run.specs.Code.Frames.{dest_of, seen_frame, seen_items};
 ghost use Rattle.plain_run.specs.Code.Names.{seen_locals};
 ghost use Rattle.plain_run.specs.Values.{seen_value};
 
 use crate::environment::{Definition, Environment};
-use crate::frame::{Frame, Rest};
+use crate::frame::{Frame, Rest, statements};
 use crate::names::Values;
 use crate::value::Value;
-use c_lang::{Dest, Kind, Name};
+use c_lang::{Dest, Func, Kind, Name};
 use indexmap::IndexMap;
 use std::alloc::{AllocError, Global};
 
@@ -43,6 +44,15 @@ fn bound<'p, E: Environment<'p>>(
     Ok(locals)
 }
 
+// What a function's frame has to run first.
+fn whole_body<'p>(alloc: Global, func: &'p Func) -> Result<Vec<Rest<'p>>, AllocError>
+    ensures { IfOk result (λ rest. seen_items rest.items ≡ map Does func.entry.now.body) }
+{
+    let mut rest = Vec::new(alloc);
+    rest.push(Rest::Body(statements(&func.body)))?;
+    Ok(rest)
+}
+
 /// The frame of a call.
 pub(crate) fn frame_of<'p, E: Environment<'p>>(
     alloc: Global,
@@ -55,18 +65,17 @@ pub(crate) fn frame_of<'p, E: Environment<'p>>(
         (map (seen_value E.seen.function) args.now) (dest_of dest.entry)) }
 {
     let origin = definition.origin;
-    let mut rest = Vec::new(alloc);
     match definition.func {
         None => Ok(Frame {
             origin,
             locals: IndexMap::new(alloc),
-            rest,
+            rest: Vec::new(alloc),
             dest,
             gives: false,
         }),
         Some(func) => {
+            let rest = whole_body(alloc, func)?;
             let locals = bound::<E>(alloc, func.params.as_slice(), args)?;
-            rest.push(Rest::Body(func.body.as_slice()))?;
             Ok(Frame {
                 origin,
                 locals,
@@ -76,4 +85,16 @@ pub(crate) fn frame_of<'p, E: Environment<'p>>(
             })
         }
     }
+}
+
+/// The frame of a call without arguments, whose result goes nowhere.
+pub(crate) fn first_frame<'p, E: Environment<'p>>(
+    alloc: Global,
+    definition: Definition<'p, E::Origin>,
+) -> Result<Frame<'p, E::Function, E::Origin>, AllocError>
+    ensures { IfOk result (λ frame. (N : Access E.F E.State E.O) → seen_frame E.seen frame ≡
+        frame_of N (seen_definition E.seen.origin definition.entry) [] Nowhere) }
+{
+    let none = Vec::new(alloc);
+    frame_of::<E>(alloc, definition, &none, None)
 }

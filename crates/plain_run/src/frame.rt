@@ -7,6 +7,7 @@ ghost use Rattle.plain_run.specs.Code.Frames.{seen_items, first_statement, behin
 
 use crate::names::Values;
 use c_lang::{Dest, Stmt};
+use sqlite_items::Items;
 use std::alloc::AllocError;
 
 /// What a frame has still to run: the rest of a body, or a `while` whose body was entered.
@@ -18,13 +19,32 @@ pub enum Rest<'p> {
 
 /// A call that hasn't returned. The innermost body stands last in `rest`. The first frame and a
 /// transformer's have no `dest`.
-#[derive(Drop)]
-pub struct Frame<'p, F, O> {
+pub struct Frame<'p, F: Copy, O: Copy> {
     pub origin: O,
     pub locals: Values<'p, F>,
     pub rest: Vec<Rest<'p>>,
     pub dest: Option<&'p Dest>,
     pub gives: bool,
+}
+
+// By hand, so that a proof has one step for each frame that is dropped.
+impl<F: Copy, O: Copy> Drop for Frame<'_, F, O> {
+    fn drop(self) {
+        let Frame {
+            origin: _origin,
+            locals: _locals,
+            rest: _rest,
+            dest: _dest,
+            gives: _gives,
+        } = self;
+    }
+}
+
+// A body's statements. Here alone, since the prover spells out all of `Stmt` at each such call.
+pub(crate) fn statements(body: &Items<Stmt>) -> &[Stmt]
+    ensures { result.now ≡ body.now }
+{
+    body.as_slice()
 }
 
 // The statement that runs next. Ended bodies are dropped.

@@ -2,16 +2,26 @@ ghost use Rattle.std.specs.Prelude.{◌≡◌, IfOk};
 ghost use Rattle.std.specs.Option.{option_copied};
 ghost use Rattle.c_lang.specs.Programs.{func_named};
 
+use crate::names::put;
 use c_lang::{Func, Name, Program};
 use indexmap::IndexMap;
 use std::alloc::{AllocError, Global};
 use std::marker::Model;
 
 /// A program with its functions by name, which contracts see as the program.
-#[derive(Drop)]
 pub struct IndexedProgram<'p> {
     program: &'p Program,
     funcs: IndexMap<&'p Name, &'p Func>,
+}
+
+// By hand, so that a proof has one step for each program that is dropped.
+impl Drop for IndexedProgram<'_> {
+    fn drop(self) {
+        let IndexedProgram {
+            program: _program,
+            funcs: _funcs,
+        } = self;
+    }
 }
 
 impl<'p> Model for IndexedProgram<'p> {
@@ -41,7 +51,7 @@ impl<'p> IndexedProgram<'p> {
         while left > 0 {
             left -= 1;
             let func = &all[left];
-            funcs.insert(&func.name, func)?;
+            put(&mut funcs, &func.name, func)?;
         }
         Ok(IndexedProgram { program, funcs })
     }

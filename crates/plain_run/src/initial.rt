@@ -5,7 +5,7 @@ ghost use Rattle.c_lang.specs.Programs.{global_named, initial_value, shape_value
 ghost use Rattle.plain_run.specs.Code.Names.{plain_function, seen_values};
 ghost use Rattle.plain_run.specs.Values.{seen_value};
 
-use crate::names::Values;
+use crate::names::{Values, put};
 use crate::value::Value;
 use c_lang::{GlobalVar, Name, Shape};
 use indexmap::IndexMap;
@@ -36,7 +36,7 @@ pub(crate) fn initial_values(
     while left > 0 {
         left -= 1;
         let global = &globals[left];
-        values.insert(&global.name, shape_value(&global.shape))?;
+        put(&mut values, &global.name, shape_value(&global.shape))?;
     }
     Ok(values)
 }

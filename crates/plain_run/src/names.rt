@@ -1,7 +1,9 @@
 //! Tables of names.
 
 ghost use Rattle.std.specs.Prelude.{◌≡◌, OnOk, OnErr};
+ghost use Rattle.indexmap.specs.IndexMap.{insert_entry};
 ghost use Rattle.plain_run.specs.Code.Frames.{dest_of};
+ghost use Rattle.plain_run.specs.Code.Names.{same_name};
 ghost use Rattle.plain_run.specs.Code.Stored.{Stores};
 
 use crate::environment::Environment;
@@ -12,6 +14,19 @@ use std::alloc::AllocError;
 
 /// The values of names.
 pub type Values<'p, F> = IndexMap<&'p Name, Value<F>>;
+
+// Puts a value under a name. After an error the table is as before.
+pub(crate) fn put<'p, V: Copy>(
+    table: &mut IndexMap<&'p Name, V>,
+    name: &'p Name,
+    value: V,
+) -> Result<(), AllocError>
+    ensures set { OnOk result (table.new.entries ≡ insert_entry same_name table.old.entries name.entry value) }
+    ensures kept { OnErr result (table.new.entries ≡ table.old.entries) }
+{
+    table.insert(name, value)?;
+    Ok(())
+}
 
 // Stores a value in a local where the frame of these locals has the name, else in the environment.
 // After an error both are as before.
@@ -30,19 +45,16 @@ pub(crate) fn store<'p, E: Environment<'p>>(
     ensures locals { OnErr result (locals.new.entries ≡ locals.old.entries) }
 {
     match dest {
-        Dest::Nowhere => {}
-        Dest::Fresh(_, name) => {
-            locals.insert(name, value)?;
-        }
+        Dest::Nowhere => Ok(()),
+        Dest::Fresh(_, name) => put(locals, name, value),
         Dest::Into(name) => {
             if locals.contains_key(&name) {
-                locals.insert(name, value)?;
+                put(locals, name, value)
             } else {
-                environment.put(origin, name, value)?;
+                environment.put(origin, name, value)
             }
         }
     }
-    Ok(())
 }
 
 // The same for a result, which goes nowhere where there is no destination.

@@ -9,7 +9,7 @@ use crate::arrays::{Arrays, initial_arrays, set_element};
 use crate::environment::{Callee, Decision, Definition, Environment, Look};
 use crate::indexed::IndexedProgram;
 use crate::initial::initial_values;
-use crate::names::Values;
+use crate::names::{Values, put};
 use crate::run::Run;
 use crate::value::Value;
 use c_lang::{Name, Program, Stmt};
@@ -17,11 +17,21 @@ use c_types::Typed;
 use std::alloc::{AllocError, Global};
 
 /// The globals of a program, and its functions.
-#[derive(Drop)]
 pub struct Plain<'p> {
     program: IndexedProgram<'p>,
     values: Values<'p, &'p Name>,
     arrays: Arrays<'p>,
+}
+
+// By hand, so that a proof has one step for each environment that is dropped.
+impl Drop for Plain<'_> {
+    fn drop(self) {
+        let Plain {
+            program: _program,
+            values: _values,
+            arrays: _arrays,
+        } = self;
+    }
 }
 
 impl<'p> Look for Plain<'p> {
@@ -105,8 +115,7 @@ impl<'p> Environment<'p> for Plain<'p> {
             (plain_sees.origin origin) name.entry.now (seen_value plain_sees.function value.entry) (store_of self.old)) }
         ensures kept { OnErr result (store_of self.new ≡ store_of self.old) }
     {
-        self.values.insert(name, value)?;
-        Ok(())
+        put(&mut self.values, name, value)
     }
 
     fn set_element(&mut self, origin: (), array: &'p Name, at: i32, element: i32) -> bool {
@@ -169,7 +178,6 @@ impl<'p> Plain<'p> {
     {
         let plain = Plain::new(alloc, program)?;
         let main = plain.main(alloc)?;
-        let run = Run::new(alloc, plain, main)?;
-        Ok(run)
+        Run::new(alloc, plain, main)
     }
 }

@@ -5,19 +5,19 @@ ghost use Rattle.c_lang.specs.Limits.{frame_limit};
 ghost use Rattle.c_lang.specs.declared.stmt.Dest.TheVariants.{Nowhere};
 ghost use Rattle.plain_run.specs.Environments.{seen_definition, swapped};
 ghost use Rattle.plain_run.specs.Runs.{frame_count, IsTooDeep, Makes, Makes_or_fails};
-ghost use Rattle.plain_run.specs.Steps.{Access, Live, entered, frame_of, given};
+ghost use Rattle.plain_run.specs.Steps.{Access, Live, entered, frame_of, given, stored};
 ghost use Rattle.plain_run.specs.Values.{seen_value};
 ghost use Rattle.plain_run.specs.Code.Actions as spec;
 
 use crate::action::Action;
 use crate::answers::Answers;
-use crate::call::frame_of;
+use crate::call::{first_frame, frame_of};
 use crate::environment::{Definition, Environment};
 use crate::frame::{Frame, drop_first, enter_body, enter_loop, first, leave_loop};
 use crate::names::{store, store_result};
 use crate::stack::Stack;
 use crate::step::{RunError, Step};
-use crate::value::Value;
+use crate::value::{Value, truth};
 use c_lang::{Dest, Event, Expr, Name, Pos, Stmt, Trap};
 use std::alloc::{AllocError, Global};
 use std::mem;
@@ -36,14 +36,14 @@ impl<'p, E: Environment<'p>> Run<'p, E> {
     ghost use Rattle.plain_run.specs.Code.SeenActions.{seen_action};
     ghost use Rattle.plain_run.specs.Stacks.{config_with, move_with};
 
-    fn skip(&mut self) -> Step
+    // Drops the statement that runs next.
+    fn pass(&mut self)
         requires { self.old.stack.over ≡ false }
-        ensures done { (a : List ℤ) → HasDone E.seen (E.rules self.old.environment) (E.state self.old.environment) self.old.stack
-            (spec.Skip) a (Ok result) (E.state self.new.environment) self.new.stack a }
-        ensures rules { E.rules self.new.environment ≡ E.rules self.old.environment }
+        ensures config { config_with E.seen (E.state self.new.environment) self.new.stack ≡ Live (E.state self.old.environment)
+            (behind_statement E.seen self.old.stack.top) (seen_frames E.seen self.old.stack.below) }
+        ensures environment { self.new.environment ≡ self.old.environment }
     {
         drop_first(&mut self.stack.top.rest);
-        Step::Quiet
     }
 
     fn enter(&mut self, body: &'p [Stmt]) -> Result<Step, RunError>
@@ -93,21 +93,25 @@ impl<'p, E: Environment<'p>> Run<'p, E> {
             (spec.Output number) a (Ok result) (E.state self.new.environment) self.new.stack a }
         ensures rules { E.rules self.new.environment ≡ E.rules self.old.environment }
     {
-        drop_first(&mut self.stack.top.rest);
+        self.pass();
         Step::Shown(Event::Output(number))
     }
 
-    fn store(&mut self, dest: &'p Dest, value: Value<E::Function>) -> Result<Step, RunError>
+    // Stores a value and drops the statement that runs next. After an error nothing has changed.
+    fn store(&mut self, dest: &'p Dest, value: Value<E::Function>) -> Result<(), AllocError>
         requires { self.old.stack.over ≡ false }
-        ensures done { (a : List ℤ) → HasDone E.seen (E.rules self.old.environment) (E.state self.old.environment) self.old.stack
-            (spec.Store_value dest.entry.now (seen_value E.seen.function value)) a result (E.state self.new.environment) self.new.stack a }
+        ensures done { OnOk result (config_with E.seen (E.state self.new.environment) self.new.stack ≡
+            stored (E.rules self.old.environment).access (E.state self.old.environment) (behind_statement E.seen self.old.stack.top)
+            (seen_frames E.seen self.old.stack.below) dest.entry.now (seen_value E.seen.function value)) }
+        ensures kept { OnErr result (config_with E.seen (E.state self.new.environment) self.new.stack ≡
+            config_with E.seen (E.state self.old.environment) self.old.stack) }
         ensures rules { E.rules self.new.environment ≡ E.rules self.old.environment }
     {
         let origin = self.stack.top.origin;
         let locals = &mut self.stack.top.locals;
         store(&mut self.environment, origin, locals, dest, value)?;
-        drop_first(&mut self.stack.top.rest);
-        Ok(Step::Quiet)
+        self.pass();
+        Ok(())
     }
 
     fn input(&mut self, dest: &'p Dest, answers: &mut Answers) -> Result<Step, RunError>
@@ -119,16 +123,7 @@ impl<'p, E: Environment<'p>> Run<'p, E> {
         let Some(number) = answers.first() else {
             return Ok(Step::Waiting);
         };
-        let origin = self.stack.top.origin;
-        let locals = &mut self.stack.top.locals;
-        store(
-            &mut self.environment,
-            origin,
-            locals,
-            dest,
-            Value::Num(number),
-        )?;
-        drop_first(&mut self.stack.top.rest);
+        self.store(dest, Value::Num(number))?;
         answers.skip();
         Ok(Step::Shown(Event::Input(number)))
     }
@@ -143,11 +138,7 @@ impl<'p, E: Environment<'p>> Run<'p, E> {
             return Ok(Step::Waiting);
         };
         let chosen = number != 0;
-        let value = Value::Num(if chosen { 1 } else { 0 });
-        let origin = self.stack.top.origin;
-        let locals = &mut self.stack.top.locals;
-        store(&mut self.environment, origin, locals, dest, value)?;
-        drop_first(&mut self.stack.top.rest);
+        self.store(dest, Value::Num(truth(chosen)))?;
         answers.skip();
         Ok(Step::Shown(Event::Choice(k, chosen)))
     }
@@ -162,7 +153,7 @@ impl<'p, E: Environment<'p>> Run<'p, E> {
         if !self.environment.set_element(origin, array, at, element) {
             return self.fault(Trap::Index, pos);
         }
-        drop_first(&mut self.stack.top.rest);
+        self.pass();
         Step::Quiet
     }
 
@@ -287,8 +278,7 @@ impl<'p, E: Environment<'p>> Run<'p, E> {
     {
         self.stack.reserve()?;
         let definition = self.environment.transformer();
-        let none = Vec::new(alloc);
-        let frame = frame_of::<E>(alloc, definition, &none, None)?;
+        let frame = first_frame::<E>(alloc, definition)?;
         self.environment.update(alloc)?;
         self.push(frame);
         Ok(())
@@ -314,7 +304,7 @@ impl<'p, E: Environment<'p>> Run<'p, E> {
             return Ok(Step::Waiting);
         };
         if number == 0 {
-            drop_first(&mut self.stack.top.rest);
+            self.pass();
             answers.skip();
             return Ok(Step::Shown(Event::Choice(k, false)));
         }
@@ -335,11 +325,17 @@ impl<'p, E: Environment<'p>> Run<'p, E> {
         ensures rules { E.rules self.new.environment ≡ E.rules self.old.environment }
     {
         match action {
-            Action::Skip => Ok(self.skip()),
+            Action::Skip => {
+                self.pass();
+                Ok(Step::Quiet)
+            }
             Action::Enter(body) => self.enter(body),
             Action::Loop(body, mark) => self.enter_loop(body, mark),
             Action::Leave => Ok(self.leave_loop()),
-            Action::Store(dest, value) => self.store(dest, value),
+            Action::Store(dest, value) => {
+                self.store(dest, value)?;
+                Ok(Step::Quiet)
+            }
             Action::StoreElement(array, at, element, pos) => {
                 Ok(self.store_element(array, at, element, pos))
             }
@@ -403,8 +399,7 @@ impl<'p, E: Environment<'p>> Run<'p, E> {
             (frame_of N (seen_definition E.seen.origin definition.entry) [] Nowhere) []) }
         ensures rules { IfOk result (λ run. E.rules run.environment ≡ E.rules environment) }
     {
-        let none = Vec::new(alloc);
-        let top = frame_of::<E>(alloc, definition, &none, None)?;
+        let top = first_frame::<E>(alloc, definition)?;
         let stack = Stack {
             top,
             below: Vec::new(alloc),

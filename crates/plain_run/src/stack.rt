@@ -6,11 +6,21 @@ use crate::step::RunError;
 use c_lang::FRAME_LIMIT;
 
 /// The frames of a run. Where it is over, they play no part.
-#[derive(Drop)]
-pub struct Stack<'p, F, O> {
+pub struct Stack<'p, F: Copy, O: Copy> {
     pub top: Frame<'p, F, O>,
     pub below: Vec<Frame<'p, F, O>>,
     pub over: bool,
+}
+
+// By hand, so that a proof has one step for each stack that is dropped.
+impl<F: Copy, O: Copy> Drop for Stack<'_, F, O> {
+    fn drop(self) {
+        let Stack {
+            top: _top,
+            below: _below,
+            over: _over,
+        } = self;
+    }
 }
 
 impl<'p, F: Copy, O: Copy> Stack<'p, F, O> {

@@ -1,5 +1,5 @@
 -- What tables of names stand for. A table has each name once.
-use Rattle.std.specs.Prelude.{ℤ, pos, List, [], Option, Some, None, Vec}
+use Rattle.std.specs.Prelude.{ℤ, pos, Bool, List, [], Option, Some, None, Vec}
 use Rattle.std.specs.Borrow.{Bor}
 use Rattle.std.specs.Map.{lookup}
 use Rattle.std.specs.Option.{option_map}
@@ -16,6 +16,9 @@ Entries X = List (Bor Bytes × Value X)
 
 abbrev pub Arrays : Type 0
 Arrays = List (Bor Bytes × Vec ℤ Global)
+
+abbrev pub same_name : Bor Bytes → Bor Bytes → Bool
+same_name k n = bytes_eq k.now n.now
 
 -- what a name has in a table
 abbrev pub found : {X : Type 0} → List (Bor Bytes × X) → Bytes → Option X

@@ -8,9 +8,9 @@ use Rattle.plain_run.proofs.indexed.IndexedProgram.new.Goals as goal
 pub loop-left-preserved : goal.loop-left-preserved
 loop-left-preserved c = record {
   within = omega arith;
-  has_rest = subst (HasFuncs c.insert.new.self.entries)
+  has_rest = subst (HasFuncs c.put.new.table.entries)
       (sym (drop-front c.as_slice-all.result.now c.loop-left.left c.index-all-left.result (omega arith) c.loop-left.invariant.within c.index-all-left.is))
       (IsFilled-more (λ d. d.name) func_named (option_map (λ f. f.now)) (λ d. d)
-      c.loop-left.funcs.entries c.insert.new.self.entries _ _ c.index-all-left.result (drop c.loop-left.left c.as_slice-all.result.now)
-      (λ x. refl) c.in_ok-insert.ensures.entries refl refl c.loop-left.invariant.has_rest);
+      c.loop-left.funcs.entries c.put.new.table.entries _ _ c.index-all-left.result (drop c.loop-left.left c.as_slice-all.result.now)
+      (λ x. refl) c.in_ok-put.ensures.set refl refl c.loop-left.invariant.has_rest);
 }

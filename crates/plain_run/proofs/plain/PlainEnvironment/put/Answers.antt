@@ -1,7 +1,8 @@
+use Rattle.std.proofs.lemmas.Result.{on_ok_weaker}
 use Rattle.plain_run.proofs.TableWrites.{puts}
 use Rattle.plain_run.proofs.plain.PlainEnvironment.put.Goals as goal
 
 pub returns-clause-put : goal.returns-clause-put
 returns-clause-put c =
     let m = c.args.self.now in
-    puts m.program m.values.entries c.insert.new.self.entries m.arrays.entries c.args.name c.args.value c.in_ok-insert.ensures.entries
+    on_ok_weaker c.put.result (puts m.program m.values.entries c.put.new.table.entries m.arrays.entries c.args.name c.args.value) c.put.ensures.set

@@ -1,14 +1,9 @@
-use Rattle.std.proofs.Common.{map, reverse, ap₂, ap, ◌∙◌}
-use Rattle.c_lang.specs.declared.stmt.Dest.TheVariants.{Nowhere}
-use Rattle.plain_run.specs.Environments.{seen_definition}
-use Rattle.plain_run.specs.Steps.{Live, frame_of}
+use Rattle.std.proofs.Common.{map, reverse, ap₂, ap}
+use Rattle.plain_run.specs.Steps.{Live}
 use Rattle.plain_run.specs.Code.Frames.{seen_frame}
-use Rattle.plain_run.specs.Values.{seen_value}
 use Rattle.plain_run.proofs.run.Run.new.Goals as goal
 
 pub returns-clause-config : goal.returns-clause-config
 returns-clause-config g c = λ N.
     let see = g.E.Look.seen in
-    ap₂ (λ t fs. Live (g.E.Look.state c.args.environment) t fs)
-    (c.in_ok-top.ensures N ∙ ap (λ vs. frame_of N (seen_definition see.origin c.args.definition) (map (seen_value see.function) vs) Nowhere) (c.deref.ensures.value ∙ c.new-none.ensures.items))
-    (ap (λ items. reverse (map (seen_frame see) items)) c.new.ensures.items)
+    ap₂ (λ t fs. Live (g.E.Look.state c.args.environment) t fs) (c.in_ok-top.ensures N) (ap (λ items. reverse (map (seen_frame see) items)) c.new.ensures.items)

@@ -1,11 +1,9 @@
-use Rattle.std.proofs.Common.{[], map, ap, ◌∙◌}
+use Rattle.std.proofs.Common.{[], ap, ◌∙◌}
 use Rattle.c_lang.specs.declared.program.Func.{Func}
 use Rattle.c_lang.specs.declared.stmt.Dest.TheVariants.{Nowhere}
-use Rattle.plain_run.specs.Environments.{seen_definition}
 use Rattle.plain_run.specs.Steps.{frame_of}
 use Rattle.plain_run.specs.Stacks.{config_with}
 use Rattle.plain_run.specs.Code.Frames.{seen_frame}
-use Rattle.plain_run.specs.Values.{seen_value}
 use Rattle.plain_run.proofs.MachineLaws.{pushed}
 use Rattle.plain_run.proofs.run.Run.swap.Goals as goal
 
@@ -17,6 +15,5 @@ returns-clause-done g c =
     pushed see (R.update (g.E.Look.state m.environment)) (g.E.Look.state c.update.new.self) (config_with see (g.E.Look.state c.push.new.self.environment) c.push.new.self.stack)
     (frame_of R.access R.transformer [] Nowhere) (seen_frame see c.in_ok-frame.frame)
     m.stack.top c.reserve.new.self.top m.stack.below c.reserve.new.self.below c.push.ensures.config c.in_ok-update.ensures.update
-    (c.in_ok-frame.ensures R.access ∙ ap (λ vs. frame_of R.access (seen_definition see.origin c.transformer-definition.result) (map (seen_value see.function) vs) Nowhere) (c.deref.ensures.value ∙ c.new-none.ensures.items)
-    ∙ ap (λ (d : g.E.Look.O × Func). frame_of R.access d [] Nowhere) c.transformer-definition.ensures)
+    (c.in_ok-frame.ensures R.access ∙ ap (λ (d : g.E.Look.O × Func). frame_of R.access d [] Nowhere) c.transformer-definition.ensures)
     c.reserve.ensures.top c.reserve.ensures.below
