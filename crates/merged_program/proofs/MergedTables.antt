@@ -13,7 +13,8 @@ use Rattle.version_names.specs.Version as version
 use Rattle.version_names.specs.Home.{Home, Linked, same_home, same_linked}
 use Rattle.version_names.specs.Home as home
 use Rattle.version_names.specs.Provenance as origin
-use Rattle.update_semantics.specs.UpdatingRun.{World, Specification, client_funcs}
+use Rattle.client_specs.specs.Kept.{ClientProgram}
+use Rattle.update_semantics.specs.UpdatingRun.{World, client_funcs}
 use Rattle.merged_program.specs.Names.{now_name, cell_name, code_name, variable_name}
 use Rattle.merged_program.specs.Programs.{flag, merged_global, is_own_cell, merged_globals, wrapper, old_func, new_func, xform_func, client_func, is_wrapped, merged_main, merged_funcs}
 use Rattle.merged_program.proofs.MergedNames.{by_bool, same_names, bytes_eq-sym, kept-own, same_cells, same_codes, cell_apart-now}
@@ -34,7 +35,7 @@ module _ (W : World) where
       (λ f. ap (λ n. bytes_eq n (code_name k)) (names f) ∙ same_codes (h, f.name) k)
       ∙ ap (λ o. if same_home h k.0 then option_map make o else None) (sym (func_named-is fs k.1))
 
-  main-named : (c : Option Specification) → (merged_main W c).name ≡ codes "main"
+  main-named : (c : Option ClientProgram) → (merged_main W c).name ≡ codes "main"
   main-named None = refl
   main-named (Some c) = refl
 

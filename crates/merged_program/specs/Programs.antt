@@ -22,7 +22,8 @@ use Rattle.version_names.specs.Merged.{merged_name}
 use Rattle.version_names.specs.Provenance.{Provenance}
 use Rattle.version_names.specs.Provenance as origin
 use Rattle.version_names.specs.declared.part.Origin.TheVariants as prefix
-use Rattle.update_semantics.specs.UpdatingRun.{World, Specification, client_funcs}
+use Rattle.client_specs.specs.Kept.{ClientProgram}
+use Rattle.update_semantics.specs.UpdatingRun.{World, client_funcs}
 use Rattle.merged_program.specs.Names.{now_name, parameter_name, variable_name, function_name}
 use Rattle.merged_program.specs.Statements.{hand, wrapping, return_zero, merged_statements}
 
@@ -115,9 +116,9 @@ module _ (W : World) where
   is_wrapped f = is_shared_code W.first W.second f.name
 
   -- begins with the old `main`, or with the client's function
-  abbrev pub merged_main : Option Specification → Func
+  abbrev pub merged_main : Option ClientProgram → Func
   merged_main None = starting (merged_name prefix.Old (codes "main")) (func_in W.first.funcs (codes "main"))
-  merged_main (Some c) = starting (merged_name prefix.Client c.entry) (func_in c.program.funcs c.entry)
+  merged_main (Some c) = starting (merged_name prefix.Client c.spec) (func_in c.program.funcs c.spec)
 
   abbrev pub merged_funcs : List Func
   merged_funcs =

@@ -1,9 +1,13 @@
 //! The functions of a merged program. The only error of each function is want of memory.
 
-ghost use Rattle.std.specs.Prelude.{◌≡◌, ◌++◌, ◌∷◌, [], codes, map, None, IfOk, OnOk};
+ghost use Rattle.std.specs.Prelude.{◌≡◌, ◌++◌, ◌∷◌, [], map, unwrap_or, IfOk, OnOk};
 ghost use Rattle.std.specs.List.{filter};
+ghost use Rattle.std.specs.Option.{option_copied};
+ghost use Rattle.c_lang.specs.Programs.{no_func};
 ghost use Rattle.c_types.specs.Functions as types;
 ghost use Rattle.update_semantics.specs.Linked.{provenance_of};
+ghost use Rattle.update_semantics.specs.UpdatingRun.{client_funcs};
+ghost use Rattle.version_names.specs.Provenance as origin;
 ghost use Rattle.update_semantics.specs.Worlds.{world_of};
 ghost use Rattle.merged_program.specs.Code.Built as built;
 ghost use Rattle.merged_program.specs.Programs as spec;
@@ -42,6 +46,7 @@ fn prefix(origin: Provenance) -> Origin
         Provenance::Old => Origin::Old,
         Provenance::New => Origin::New,
         Provenance::Xform => Origin::Xform,
+        Provenance::Client => Origin::Client,
     }
 }
 
@@ -72,7 +77,7 @@ fn ends_open(origin: Provenance, f: &Func) -> bool
 {
     match origin {
         Provenance::Old | Provenance::New => is_main(&f.name) && can_end(f.body.as_slice()),
-        Provenance::Xform => false,
+        Provenance::Xform | Provenance::Client => false,
     }
 }
 
@@ -169,23 +174,28 @@ fn head_of(f: Option<&Func>) -> (Pos, bool)
     }
 }
 
-// The body of `main`: a call of the old version's.
-fn starting_body(alloc: Global, pos: Pos, gives: bool) -> Result<Items<Stmt>, AllocError>
-    ensures { IfOk result (λ all. all ≡ built.starting_body pos gives (codes "dsu_old_main")) }
+// The body of `main`: a call of the function with which a run begins.
+fn starting_body(
+    alloc: Global,
+    pos: Pos,
+    gives: bool,
+    callee: &Name,
+) -> Result<Items<Stmt>, AllocError>
+    ensures { IfOk result (λ all. all ≡ built.starting_body pos gives callee.now) }
 {
-    let callee = Name::new(alloc, b"dsu_old_main")?;
-    let mut all = hand(alloc, pos, gives, &callee, &[])?;
+    let mut all = hand(alloc, pos, gives, callee, &[])?;
     if !gives {
         all.push(return_zero(pos))?;
     }
     Ok(all)
 }
 
-fn main_func(alloc: Global, meanings: &Meanings<'_>) -> Result<Func, AllocError>
-    ensures { IfOk result (λ merged. merged ≡ spec.merged_main (world_of meanings.now) None) }
+// `main` where it begins with this function, which has this merged name.
+fn starting(alloc: Global, callee: &Name, f: Option<&Func>) -> Result<Func, AllocError>
+    ensures { IfOk result (λ merged. merged ≡ spec.starting callee.now (unwrap_or (option_copied f.entry) no_func)) }
 {
-    let (pos, gives) = head_of(meanings.version_code(Version::Old, b"main").func);
-    let body = starting_body(alloc, pos, gives)?;
+    let (pos, gives) = head_of(f);
+    let body = starting_body(alloc, pos, gives, callee)?;
     let name = Name::new(alloc, b"main")?;
     Ok(Func {
         name,
@@ -194,6 +204,23 @@ fn main_func(alloc: Global, meanings: &Meanings<'_>) -> Result<Func, AllocError>
         body,
         pos,
     })
+}
+
+fn main_func(alloc: Global, meanings: &Meanings<'_>) -> Result<Func, AllocError>
+    ensures { IfOk result (λ merged. merged ≡ spec.merged_main (world_of meanings.now) (world_of meanings.now).client) }
+{
+    match meanings.world().client() {
+        None => {
+            let callee = Name::new(alloc, b"dsu_old_main")?;
+            let f = meanings.version_code(Version::Old, b"main").func;
+            starting(alloc, &callee, f)
+        }
+        Some(client) => {
+            let callee = merged_name(alloc, Origin::Client, client.spec())?;
+            let f = meanings.client_func(client.spec().as_bytes());
+            starting(alloc, &callee, f)
+        }
+    }
 }
 
 // ---- all of them
@@ -244,7 +271,24 @@ fn add_versions(
     add_wrappers(alloc, meanings, all, old)
 }
 
-/// The functions of both versions, the wrappers, the transformer's functions, and `main`.
+// The functions of the client, where there is one.
+fn add_client(
+    alloc: Global,
+    meanings: &Meanings<'_>,
+    all: &mut Items<Func>,
+) -> Result<(), AllocError>
+    ensures { OnOk result (all.new ≡ all.old ++ map (built.code_func meanings.now origin.Client) (client_funcs (world_of meanings.now))) }
+{
+    match meanings.world().client() {
+        Some(client) => {
+            let funcs = client.program().funcs.as_slice();
+            add_code(alloc, meanings, Provenance::Client, all, funcs)
+        }
+        None => Ok(()),
+    }
+}
+
+/// The functions of both versions, the wrappers, the transformer's functions, the client's, and `main`.
 pub fn funcs(alloc: Global, meanings: &Meanings<'_>) -> Result<Items<Func>, AllocError>
     ensures { IfOk result (λ all. all ≡ spec.merged_funcs (world_of meanings.now)) }
 {
@@ -252,6 +296,7 @@ pub fn funcs(alloc: Global, meanings: &Meanings<'_>) -> Result<Items<Func>, Allo
     add_versions(alloc, meanings, &mut all)?;
     let xform = meanings.world().xform().program().funcs.as_slice();
     add_code(alloc, meanings, Provenance::Xform, &mut all, xform)?;
+    add_client(alloc, meanings, &mut all)?;
     all.push(main_func(alloc, meanings)?)?;
     Ok(all)
 }

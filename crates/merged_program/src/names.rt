@@ -45,7 +45,8 @@ fn code_name(alloc: Global, function: Function<'_>) -> Result<Name, AllocError>
     ensures { IfOk result (λ name. name ≡ spec.code_name (function_at function.entry)) }
 {
     match function {
-        Function::Own(name) => merged_bytes(alloc, Origin::Xform, name),
+        Function::Xform(name) => merged_bytes(alloc, Origin::Xform, name),
+        Function::Client(name) => merged_bytes(alloc, Origin::Client, name),
         Function::Version(Linked { part, name }) => match part {
             Some(Part::Both) => merged_bytes(alloc, Origin::Any, name),
             Some(Part::Old) => merged_bytes(alloc, Origin::Old, name),

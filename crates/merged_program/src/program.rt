@@ -62,7 +62,7 @@ fn program_of(alloc: Global, meanings: &Meanings<'_>) -> Result<Program, AllocEr
     with_funcs(alloc, meanings, funcs)
 }
 
-/// The program that the versions and the transformer of a world are merged into. The only error is want
+/// The program that the versions, the transformer and the client of a world are merged into. The only error is want
 /// of memory.
 pub fn merged_program(alloc: Global, world: &World) -> Result<Program, AllocError>
     ensures program { IfOk result (λ program. program ≡ spec.merged_program (world_of world.now)) }

@@ -111,7 +111,7 @@ fn point(
     ensures { IfOk result (λ s. s ≡ built.mirrored meanings.now (provenance_of origin) (tree.point pos k)) }
 {
     let may_update = match origin {
-        Provenance::Old => true,
+        Provenance::Old | Provenance::Client => true,
         Provenance::New | Provenance::Xform => false,
     };
     if may_update && meanings.world().points().permits(k) {

@@ -18,8 +18,9 @@ use Rattle.state_xform.specs.Kept.{IsTransformerOf}
 use Rattle.state_xform.specs.Refusals.{resolved_transformer}
 use Rattle.state_xform.specs.Transformers.{AreOwnFuncs}
 use Rattle.state_xform.specs.Visible.{visible}
+use Rattle.client_specs.specs.Kept.{ClientProgram}
 use Rattle.update_semantics.specs.UpdatingRun as run
-use Rattle.update_semantics.specs.UpdatingRun.{Specification}
+
 use Rattle.update_semantics.specs.Worlds.{World, IsWorld, world_of}
 use Rattle.merged_program.specs.Programs.{merged_funcs, merged_program}
 use Rattle.merge_printer.specs.Printable.{IsPrintable}
@@ -102,7 +103,7 @@ transformer_funcs first second kept h =
 
 -- ---- worlds
 
-no_entry : (c : Specification) → None ≡ Some c → InWord c.entry
+no_entry : (c : ClientProgram) → None ≡ Some c → InWord c.spec
 no_entry c is = absurd cc
 
 module _ (w : World) (h : IsWorld w) where

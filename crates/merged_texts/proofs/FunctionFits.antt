@@ -24,7 +24,8 @@ use Rattle.version_names.specs.Merged.{merged_name}
 use Rattle.version_names.specs.Provenance.{Provenance}
 use Rattle.version_names.specs.Provenance as origin
 use Rattle.version_names.specs.declared.part.Origin.TheVariants as prefix
-use Rattle.update_semantics.specs.UpdatingRun.{World, Specification, client_funcs}
+use Rattle.client_specs.specs.Kept.{ClientProgram}
+use Rattle.update_semantics.specs.UpdatingRun.{World, client_funcs}
 use Rattle.merged_program.specs.Names.{now_name, variable_name, function_name}
 use Rattle.merged_program.specs.Statements.{hand, wrapping, return_zero, merged_statements}
 use Rattle.merged_program.specs.Programs.{parameters_from, wrapper, starting, declared, ending, merged_param, merged_body, merged_func, old_func, new_func, xform_func, client_func, is_wrapped, merged_main, merged_funcs}
@@ -236,15 +237,15 @@ pub record HasGoodFuncs (W : World) : Type 0 where
   pub second : All IsGoodFunc W.second.funcs
   pub xform : All IsGoodFunc W.xform.funcs
   pub client : All IsGoodFunc (client_funcs W)
-  pub entry : (c : Specification) → W.client ≡ Some c → InWord c.entry
+  pub entry : (c : ClientProgram) → W.client ≡ Some c → InWord c.spec
 
 mapped_reads : (g : Func → Func) → ((f : Func) → IsGoodFunc f → IsReadable (g f)) → (fs : List Func) → All IsGoodFunc fs → All IsReadable (map g fs)
 mapped_reads g each fs h = All-map IsReadable g fs (All-weaker IsGoodFunc (λ f. IsReadable (g f)) each fs h)
 
 module _ (W : World) (h : HasGoodFuncs W) where
-  main_reads : (c : Option Specification) → W.client ≡ c → IsReadable (merged_main W c)
+  main_reads : (c : Option ClientProgram) → W.client ≡ c → IsReadable (merged_main W c)
   main_reads None is = starting_reads (merged_name prefix.Old (codes "main")) (func_in W.first.funcs (codes "main")) (merged_fits prefix.Old (codes "main") refl)
-  main_reads (Some c) is = starting_reads (merged_name prefix.Client c.entry) (func_in c.program.funcs c.entry) (merged_fits prefix.Client c.entry (h.entry c is))
+  main_reads (Some c) is = starting_reads (merged_name prefix.Client c.spec) (func_in c.program.funcs c.spec) (merged_fits prefix.Client c.spec (h.entry c is))
 
   pub funcs_read : All IsReadable (merged_funcs W)
   funcs_read =

@@ -17,7 +17,8 @@ use Rattle.version_names.specs.Merged.{merged_name}
 use Rattle.version_names.specs.Provenance.{Provenance, may_update}
 use Rattle.version_names.specs.Provenance as origin
 use Rattle.version_names.specs.declared.part.Origin.TheVariants as prefix
-use Rattle.update_semantics.specs.UpdatingRun.{World, Specification, client_funcs}
+use Rattle.client_specs.specs.Kept.{ClientProgram}
+use Rattle.update_semantics.specs.UpdatingRun.{World, client_funcs}
 use Rattle.merged_program.specs.Expressions.{renamed}
 use Rattle.merged_program.specs.Names.{variable_name, function_name}
 use Rattle.merged_program.specs.Statements.{asking, hand, wrapping, return_zero, merged_statement, merged_statements}
@@ -155,9 +156,9 @@ module _ (W : World) where
       let body = statements_low W.permits (variable_name W) (function_name W) o (body_of f.body) in
       omega (arith, le, body, both_heights (merged_body W o f.body) behind, built_height (merged_statements W.permits (variable_name W) (function_name W) o (body_of f.body)))
 
-  main_low : (c : Option Specification) → body_height (merged_main W c).body ≤ 3
+  main_low : (c : Option ClientProgram) → body_height (merged_main W c).body ≤ 3
   main_low None = starting_low (merged_name prefix.Old (codes "main")) (func_in W.first.funcs (codes "main"))
-  main_low (Some c) = starting_low (merged_name prefix.Client c.entry) (func_in c.program.funcs c.entry)
+  main_low (Some c) = starting_low (merged_name prefix.Client c.spec) (func_in c.program.funcs c.spec)
 
   old_low : funcs_height (map (old_func W) W.first.funcs) ≤ funcs_height W.first.funcs + 3
   old_low = mapped_low (old_func W) (λ f. func_low origin.Old (merged_name prefix.Old f.name) (ending f) f (ending_low f)) W.first.funcs

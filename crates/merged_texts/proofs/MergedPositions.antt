@@ -23,7 +23,8 @@ use Rattle.version_names.specs.Merged.{merged_name}
 use Rattle.version_names.specs.Provenance.{Provenance, may_update}
 use Rattle.version_names.specs.Provenance as origin
 use Rattle.version_names.specs.declared.part.Origin.TheVariants as prefix
-use Rattle.update_semantics.specs.UpdatingRun.{World, Specification, client_funcs}
+use Rattle.client_specs.specs.Kept.{ClientProgram}
+use Rattle.update_semantics.specs.UpdatingRun.{World, client_funcs}
 use Rattle.merged_program.specs.Names.{variable_name, function_name}
 use Rattle.merged_program.specs.Statements.{asking, hand, wrapping, return_zero, merged_statement, merged_statements}
 use Rattle.merged_program.specs.Programs.{parameters_from, wrapper, starting, declared, flag, ending, merged_global, is_own_cell, merged_body, merged_func, old_func, new_func, xform_func, client_func, is_wrapped, merged_main, merged_funcs, merged_program}
@@ -120,11 +121,11 @@ module _ (W : World) where
       let body = statements_at W.permits (variable_name W) (function_name W) o (body_of f.body) h.1 in
       (h.0, both_have (merged_body W o f.body) behind (built_at (merged_statements W.permits (variable_name W) (function_name W) o (body_of f.body)) body) k)
 
-  main_at : (first second xform : Program) (c : Option Specification) (permits : ℕ → Bool)
+  main_at : (first second xform : Program) (c : Option ClientProgram) (permits : ℕ → Bool)
       → All FuncHasPositions first.funcs → All FuncHasPositions (client_funcs (record { first = first; second = second; xform = xform; client = c; permits = permits }))
       → FuncHasPositions (merged_main (record { first = first; second = second; xform = xform; client = c; permits = permits }) c)
   main_at first second xform None permits h k = starting_at (merged_name prefix.Old (codes "main")) (func_in first.funcs (codes "main")) (found_at first.funcs (codes "main") h)
-  main_at first second xform (Some c) permits h k = starting_at (merged_name prefix.Client c.entry) (func_in c.program.funcs c.entry) (found_at c.program.funcs c.entry k)
+  main_at first second xform (Some c) permits h k = starting_at (merged_name prefix.Client c.spec) (func_in c.program.funcs c.spec) (found_at c.program.funcs c.spec k)
 
   funcs_at : PartsHavePositions W → All FuncHasPositions (merged_funcs W)
   funcs_at h =

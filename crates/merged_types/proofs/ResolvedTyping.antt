@@ -6,12 +6,12 @@ use Rattle.c_lang.specs.Trees.{Expression, literal, variable, element, function,
 use Rattle.c_lang.specs.declared.stmt.Dest.{Dest}
 use Rattle.c_lang.specs.declared.stmt.Kind.{Kind}
 use Rattle.c_lang.specs.declared.stmt.Kind.TheVariants.{Int, Fp}
-use Rattle.c_types.specs.Names.{Means, Cell, Array, Code, Refused, Names}
-use Rattle.c_types.specs.Scopes.{Scope, Block, names_of}
+use Rattle.c_types.specs.Names.{Means, Cell, Array, Code, Refused, Names, Entries}
+use Rattle.c_types.specs.Scopes.{Picks, Scope, Block, in_pick, names_of}
 use Rattle.c_types.specs.Expressions.{place_of}
-use Rattle.c_types.specs.Calls.{place_in, ints}
+use Rattle.c_types.specs.Calls.{place_in, ints, picked}
 use Rattle.c_types.specs.Statements.{scope_after, block_in, entered, after_block}
-use Rattle.c_types.specs.Typing.{IsFunction, IsArray, IsPointer, IsDest, IsUse, IsAnswer}
+use Rattle.c_types.specs.Typing.{IsFunction, IsArray, IsPointer, IsDest, IsUse, IsAnswer, MayForce}
 
 abbrev pub IsInt : Kind → Type 0
 IsInt Int = ⊤
@@ -63,6 +63,16 @@ IsResolvedReturn names false None = ⊤
 IsResolvedReturn names true (Some e) = IsResolved names Int e
 IsResolvedReturn names false (Some e) = ⊥
 
+-- one of the two calls of a pick, which sees these names
+abbrev pub IsResolvedPicked : Block → Scope → Entries → Statement → Type 0
+IsResolvedPicked block scope outside (call p d f es) =
+    let inside = in_pick scope outside in IsDest block inside d × IsResolvedCall inside (picked (names_of inside f)) d es
+IsResolvedPicked block scope outside s = ⊥
+
+abbrev pub IsResolvedPick : Block → Scope → Option Picks → Statement → Statement → Type 0
+IsResolvedPick block scope None a b = ⊥
+IsResolvedPick block scope (Some names) a b = IsResolvedPicked block scope names.after a × IsResolvedPicked block scope names.before b
+
 abbrev mutual
   pub IsResolvedStatement : Block → Scope → Statement → Type 0
   IsResolvedStatement block scope (skip p) = ⊤
@@ -83,8 +93,8 @@ abbrev mutual
   IsResolvedStatement block scope (output p e) = (scope.xform ≡ false) × IsResolved (names_of scope) Int e
   IsResolvedStatement block scope (point p k) = scope.xform ≡ false
   IsResolvedStatement block scope (choice p d k) = IsAnswer block scope d
-  IsResolvedStatement block scope (force p) = ⊥
-  IsResolvedStatement block scope (pick p a b) = ⊥
+  IsResolvedStatement block scope (force p) = MayForce scope.forced
+  IsResolvedStatement block scope (pick p a b) = IsResolvedPick block scope scope.picks a b
 
   pub AreResolved : Block → Scope → Statements → Type 0
   AreResolved block scope none = ⊤

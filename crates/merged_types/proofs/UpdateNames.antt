@@ -21,7 +21,8 @@ use Rattle.version_names.specs.Home as home
 use Rattle.version_names.specs.Provenance as origin
 use Rattle.version_names.specs.declared.part.Origin.{Origin}
 use Rattle.version_names.specs.declared.part.Origin.TheVariants as prefix
-use Rattle.update_semantics.specs.UpdatingRun.{World, Specification, client_funcs}
+use Rattle.client_specs.specs.Kept.{ClientProgram}
+use Rattle.update_semantics.specs.UpdatingRun.{World, client_funcs}
 use Rattle.merged_program.specs.Names.{now_name, choice_name, result_name, parameter_name, cell_name, kept_name}
 use Rattle.merged_program.specs.Programs.{merged_globals, merged_param, wrapper, old_func, new_func, xform_func, client_func, is_wrapped, merged_main, merged_funcs}
 use Rattle.state_xform.specs.Transformers.{is_start}
@@ -60,7 +61,7 @@ module _ (W : World) where
   cells_apart n h kept (home.Client, x) = h prefix.Client x
   cells_apart n h kept (home.Unlinked, x) = kept x
 
-  main_apart : (c : Option Specification) (n : Bytes) → bytes_eq (codes "main") n ≡ false → bytes_eq (merged_main W c).name n ≡ false
+  main_apart : (c : Option ClientProgram) (n : Bytes) → bytes_eq (codes "main") n ≡ false → bytes_eq (merged_main W c).name n ≡ false
   main_apart None n h = h
   main_apart (Some c) n h = h
 

@@ -37,12 +37,14 @@ linked_at l = (home_at l.part, l.name.now)
 
 abbrev pub function_at : Function → home.Linked
 function_at (function.Version l) = linked_at l
-function_at (function.Own f) = (home.Xform, f.now)
+function_at (function.Xform f) = (home.Xform, f.now)
+function_at (function.Client f) = (home.Client, f.now)
 
 abbrev pub provenance_of : Provenance → origin.Provenance
 provenance_of p.Old = origin.Old
 provenance_of p.New = origin.New
 provenance_of p.Xform = origin.Xform
+provenance_of p.Client = origin.Client
 
 -- where a version's name of this sort stands
 abbrev pub home_in : World → Sort2 → version.Version → Bytes → Home

@@ -5,6 +5,7 @@ use Rattle.c_lang.specs.Values.{Value, Num, is_zero}
 use Rattle.plain_run.specs.Moves.{Move, Goes, Asks, events_of, Shows}
 use Rattle.plain_run.specs.Steps.{Frame, Config, Live, Access, Does, Special, frame_of, before_rest, act, step_with}
 use Rattle.c_lang.specs.Programs.{global_named, func_named, func_in, no_func, initial_value, initial_elements}
+use Rattle.client_specs.specs.Kept.{ClientProgram}
 use Rattle.version_names.specs.Links.{cell_part, code_part}
 use Rattle.version_names.specs.Version.{Version, is_old}
 use Rattle.version_names.specs.Version as version
@@ -20,16 +21,11 @@ use Rattle.c_lang.specs.declared.stmt.Stmt.TheOpen as one
 use Rattle.c_lang.specs.declared.program.Func.{Func}
 use Rattle.c_lang.specs.declared.program.Program.{Program}
 
--- a client: its functions, and the one that is run
-pub record Specification : Type 0 where
-  pub program : Program
-  pub entry : Bytes
-
 pub record World : Type 0 where
   pub first : Program
   pub second : Program
   pub xform : Program
-  pub client : Option Specification
+  pub client : Option ClientProgram
   -- the points at which the update may happen
   pub permits : ℕ → Bool
 
@@ -74,13 +70,13 @@ if_in_old Both x y = x
 if_in_old Old x y = x
 if_in_old _ x y = y
 
+abbrev pub funcs_of_client : Option ClientProgram → List Func
+funcs_of_client None = []
+funcs_of_client (Some c) = c.program.funcs
+
 module _ (W : World) where
   abbrev pub client_funcs : List Func
-  client_funcs = funcs_of W.client
-    where
-      funcs_of : Option Specification → List Func
-      funcs_of None = []
-      funcs_of (Some c) = c.program.funcs
+  client_funcs = funcs_of_client W.client
 
   -- the cell that a name stands for in a frame
   abbrev pub cell_meaning : Provenance → Bytes → Linked
@@ -164,9 +160,9 @@ module _ (W : World) where
   }
 
   -- the old `main`, or the client's function
-  abbrev pub entry_code : Option Specification → Provenance × Func
+  abbrev pub entry_code : Option ClientProgram → Provenance × Func
   entry_code None = version_code version.Old (codes "main")
-  entry_code (Some c) = (origin.Client, func_in c.program.funcs c.entry)
+  entry_code (Some c) = (origin.Client, func_in c.program.funcs c.spec)
 
   abbrev pub start_updating : UpdConfig
   start_updating = Live first_state (frame_of updating_access (entry_code W.client) [] Nowhere) []

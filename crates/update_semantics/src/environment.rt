@@ -1,6 +1,6 @@
 //! What names stand for in an updating run, and what they hold.
 
-ghost use Rattle.std.specs.Prelude.{◌≡◌, ◌&&◌, IfOk, OnOk, OnErr, None};
+ghost use Rattle.std.specs.Prelude.{◌≡◌, ◌&&◌, IfOk, OnOk, OnErr};
 ghost use Rattle.version_names.specs.Home.{same_linked};
 ghost use Rattle.version_names.specs.Provenance.{may_update};
 ghost use Rattle.version_names.specs.Version.{is_old};
@@ -73,11 +73,17 @@ impl<'p> UpdatedNames<'p> {
         Ok(UpdatedNames { meanings, state })
     }
 
-    /// The old version's `main`, with which runs start. It takes no memory.
-    pub fn main(&self) -> Definition<'p, Provenance>
-        ensures { seen_definition provenance_of result ≡ entry_code (world_of (world_in self.now)) None }
+    /// The old version's `main`, or the client's function, with which runs start. It takes no memory.
+    pub fn entry(&self) -> Definition<'p, Provenance>
+        ensures { seen_definition provenance_of result ≡ entry_code (world_of (world_in self.now)) (world_in self.now).client }
     {
-        self.meanings.version_code(Version::Old, b"main")
+        let world = self.meanings.world();
+        match world.client() {
+            Some(client) => self
+                .meanings
+                .code(Version::Old, Function::Client(client.spec().as_bytes())),
+            None => self.meanings.version_code(Version::Old, b"main"),
+        }
     }
 
     fn is_old(&self) -> bool
@@ -95,7 +101,7 @@ impl<'p> UpdatedNames<'p> {
             (is_old (state_in self.now).now && (world_of (world_in self.now)).permits k)) }
     {
         let may_update = match origin {
-            Provenance::Old => true,
+            Provenance::Old | Provenance::Client => true,
             Provenance::New | Provenance::Xform => false,
         };
         may_update && self.is_old() && self.meanings.world().points().permits(k)
@@ -219,7 +225,7 @@ impl<'p> Environment<'p> for UpdatedNames<'p> {
 
     fn transformer(&self) -> Definition<'p, Provenance> {
         self.meanings
-            .code(Version::New, Function::Own(b"dsu_transform"))
+            .code(Version::New, Function::Xform(b"dsu_transform"))
     }
 
     fn put(

@@ -20,7 +20,9 @@ pub struct Linked<'p> {
 pub enum Function<'p> {
     Version(Linked<'p>),
     /// One of the transformer's own.
-    Own(&'p [u8]),
+    Xform(&'p [u8]),
+    /// One of the client's own.
+    Client(&'p [u8]),
 }
 
 /// Where the body of a frame was written.
@@ -29,6 +31,7 @@ pub enum Provenance {
     Old,
     New,
     Xform,
+    Client,
 }
 
 fn same_part(a: Option<Part>, b: Option<Part>) -> bool
@@ -46,10 +49,11 @@ impl Function<'_> {
             (Function::Version(a), Function::Version(b)) => {
                 same_part(a.part, b.part) && a.name == b.name
             }
-            (Function::Own(a), Function::Own(b)) => a == b,
-            (Function::Version(_), Function::Own(_)) | (Function::Own(_), Function::Version(_)) => {
-                false
-            }
+            (Function::Xform(a), Function::Xform(b))
+            | (Function::Client(a), Function::Client(b)) => a == b,
+            (Function::Version(_), Function::Xform(_) | Function::Client(_))
+            | (Function::Xform(_), Function::Version(_) | Function::Client(_))
+            | (Function::Client(_), Function::Version(_) | Function::Xform(_)) => false,
         }
     }
 }

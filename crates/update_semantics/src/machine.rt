@@ -32,14 +32,15 @@ impl<'p> UpdMachine<'p> {
     ghost use Rattle.update_semantics.specs.Machines.{config_of, rules_in, move_of};
 
     /// The machine at the start of the world's run: the old version is current, its globals have their
-    /// initial values, and its `main` is called. The only error is want of memory.
+    /// initial values, and its `main` is called, or the client's function, where there is a client. The
+    /// only error is want of memory.
     pub fn new(alloc: Global, world: &'p World) -> Result<UpdMachine<'p>, AllocError>
         ensures config { IfOk result (λ machine. config_of machine ≡ start_updating (world_of world.entry.now)) }
         ensures rules { IfOk result (λ machine. rules_in machine ≡ rules_of (world_of world.entry.now)) }
     {
         let names = UpdatedNames::new(alloc, world)?;
-        let main = names.main();
-        let run = Run::new(alloc, names, main)?;
+        let entry = names.entry();
+        let run = Run::new(alloc, names, entry)?;
         Ok(UpdMachine { run })
     }
 

@@ -3,28 +3,30 @@
 ghost use Rattle.std.specs.Prelude.{◌≡◌, IfOk};
 ghost use Rattle.std.specs.Option.{option_copied};
 ghost use Rattle.c_lang.specs.Names.{behind};
+ghost use Rattle.c_lang.specs.Programs.{func_named};
 ghost use Rattle.version_names.specs.Parts.{version_of};
 ghost use Rattle.version_names.specs.Home.{Both, same_home};
 ghost use Rattle.update_semantics.specs.Linked.{home_at, linked_at, function_at, provenance_of, home_in, declared_name, program_of, own_home, alone};
 ghost use Rattle.plain_run.specs.Environments.{seen_definition};
-ghost use Rattle.update_semantics.specs.UpdatingRun.{linked_by_prefix, cell_meaning, function_meaning, version_code, code_of};
-ghost use Rattle.update_semantics.specs.Worlds.{IsWorld, world_of};
+ghost use Rattle.update_semantics.specs.UpdatingRun.{client_funcs, linked_by_prefix, cell_meaning, function_meaning, version_code, code_of};
+ghost use Rattle.update_semantics.specs.Worlds.{IsWorld, program_of_client, world_of};
 
 use crate::declared::Declared;
 use crate::linked::{Function, Linked, Provenance};
 use crate::world::World;
-use c_lang::{Name, Program};
+use c_lang::{Func, Name, Program};
 use plain_run::Definition;
 use std::alloc::{AllocError, Global};
 use std::marker::Model;
 use version_names::{Part, Sort2, Version};
 
-/// A world with the declarations of its three programs by name, which contracts see as the world.
+/// A world with the declarations of its programs by name, which contracts see as the world.
 pub struct Meanings<'p> {
     world: &'p World,
     first: Declared<'p>,
     second: Declared<'p>,
     xform: Declared<'p>,
+    client: Option<Declared<'p>>,
 }
 
 impl Drop for Meanings<'_> {
@@ -34,10 +36,12 @@ impl Drop for Meanings<'_> {
             first,
             second,
             xform,
+            client,
         } = self;
         drop(first);
         drop(second);
         drop(xform);
+        drop(client);
     }
 }
 
@@ -45,7 +49,7 @@ impl<'p> Model for Meanings<'p> {
     ghost use Rattle.std.specs.Prelude.{◌≡◌};
     ghost use Rattle.std.specs.Coded.{codes};
     ghost use Rattle.c_lang.specs.contracts.stmt.Stmt as stmt;
-    ghost use Rattle.update_semantics.specs.Worlds.{World};
+    ghost use Rattle.update_semantics.specs.Worlds.{World, program_of_client};
 
     ghost Value = { World };
 
@@ -53,7 +57,7 @@ impl<'p> Model for Meanings<'p> {
 
     ghost view = { λ m. m.world.now };
 
-    ghost invariant = { λ m. (m.first ≡ m.world.now.old_prog.program) × (m.second ≡ m.world.now.new_prog.program) × (m.xform ≡ m.world.now.xform) };
+    ghost invariant = { λ m. (m.first ≡ m.world.now.old_prog.program) × (m.second ≡ m.world.now.new_prog.program) × (m.xform ≡ m.world.now.xform) × (m.client ≡ program_of_client m.world.now.client) };
 }
 
 // What follows the prefix in a name that begins with it.
@@ -92,6 +96,16 @@ fn is_own(version: Version, part: Option<Part>) -> bool
     }
 }
 
+// A client's declarations, where there is one.
+fn client_declared(alloc: Global, world: &World) -> Result<Option<Declared<'_>>, AllocError>
+    ensures { IfOk result (λ declared. declared ≡ program_of_client world.entry.now.client) }
+{
+    match world.client() {
+        Some(client) => Ok(Some(Declared::new(alloc, client.program())?)),
+        None => Ok(None),
+    }
+}
+
 impl<'p> Meanings<'p> {
     /// The tables of a world. The only error is want of memory.
     pub fn new(alloc: Global, world: &'p World) -> Result<Meanings<'p>, AllocError>
@@ -101,11 +115,13 @@ impl<'p> Meanings<'p> {
         let first = Declared::new(alloc, world.old_prog().program())?;
         let second = Declared::new(alloc, world.new_prog().program())?;
         let xform = Declared::new(alloc, world.xform().program())?;
+        let client = client_declared(alloc, world)?;
         Ok(Meanings {
             world,
             first,
             second,
             xform,
+            client,
         })
     }
 
@@ -172,7 +188,7 @@ impl<'p> Meanings<'p> {
         }
     }
 
-    // What a name stands for in the transformer, if it is none of its own.
+    // What a name stands for in the transformer or in the client, if it is none of its own.
     fn linked_by_prefix<'a>(&self, sort: Sort2, name: &'a Name) -> Linked<'a>
         ensures { linked_at result ≡ linked_by_prefix (home_in (world_of self.now) sort) name.entry.now }
     {
@@ -200,6 +216,16 @@ impl<'p> Meanings<'p> {
         }
     }
 
+    /// A function of the client's own; none where there is no client. It takes no memory.
+    pub fn client_func(&self, name: &[u8]) -> Option<&'p Func>
+        ensures { option_copied result ≡ func_named (client_funcs (world_of self.now)) name.now }
+    {
+        match &self.client {
+            Some(client) => client.func(name),
+            None => None,
+        }
+    }
+
     /// The cell that a name stands for in a frame. It takes no memory.
     pub fn cell<'a>(&self, origin: Provenance, name: &'a Name) -> Linked<'a>
         ensures { linked_at result ≡ cell_meaning (world_of self.now) (provenance_of origin) name.entry.now }
@@ -208,6 +234,10 @@ impl<'p> Meanings<'p> {
             Provenance::Old => self.linked(Version::Old, Sort2::Cell, name),
             Provenance::New => self.linked(Version::New, Sort2::Cell, name),
             Provenance::Xform => self.linked_by_prefix(Sort2::Cell, name),
+            Provenance::Client => Linked {
+                part: None,
+                name: name.as_bytes(),
+            },
         }
     }
 
@@ -219,7 +249,11 @@ impl<'p> Meanings<'p> {
             Provenance::Old => Function::Version(self.linked(Version::Old, Sort2::Code, name)),
             Provenance::New => Function::Version(self.linked(Version::New, Sort2::Code, name)),
             Provenance::Xform => match self.xform.func(name.as_bytes()) {
-                Some(_) => Function::Own(name.as_bytes()),
+                Some(_) => Function::Xform(name.as_bytes()),
+                None => Function::Version(self.linked_by_prefix(Sort2::Code, name)),
+            },
+            Provenance::Client => match self.client_func(name.as_bytes()) {
+                Some(_) => Function::Client(name.as_bytes()),
                 None => Function::Version(self.linked_by_prefix(Sort2::Code, name)),
             },
         }
@@ -247,9 +281,13 @@ impl<'p> Meanings<'p> {
         ensures { seen_definition provenance_of result ≡ code_of (world_of self.now) (version_of now) (function_at function.entry) }
     {
         match function {
-            Function::Own(name) => Definition {
+            Function::Xform(name) => Definition {
                 origin: Provenance::Xform,
                 func: self.xform.func(name),
+            },
+            Function::Client(name) => Definition {
+                origin: Provenance::Client,
+                func: self.client_func(name),
             },
             Function::Version(Linked { part, name }) => match part {
                 Some(Part::Both) => self.version_code(now, name),

@@ -1,21 +1,24 @@
 //! An old and a new program, with all that an update from one to the other takes.
 
 ghost use Rattle.std.specs.Prelude.{◌≡◌};
+ghost use Rattle.std.specs.Option.{option_copied};
 ghost use Rattle.update_semantics.specs.Worlds.{IsWorld};
 
 use c_types::Typed;
+use client_specs::Client;
 use state_xform::Xform;
 use std::marker::Model;
 use update_points::Points;
 use version_names::Links;
 
-/// The two versions of a program, the transformer that an update runs, how the versions' names are
-/// linked, and the points at which an update may happen.
+/// The two versions of a program, the transformer that an update runs, the client that calls them, where
+/// there is one, how the versions' names are linked, and the points at which an update may happen.
 #[derive(Drop)]
 pub struct World {
     old_prog: Typed,
     new_prog: Typed,
     xform: Xform,
+    client: Option<Client>,
     links: Links,
     points: Points,
 }
@@ -29,29 +32,31 @@ impl Model for World {
 
     ghost coded = { Prim.hlevel (codes, stmt.the_row.coded) };
 
-    ghost view = { λ w. record { old_prog = w.old_prog; new_prog = w.new_prog; xform = w.xform; links = w.links; points = w.points } };
+    ghost view = { λ w. record { old_prog = w.old_prog; new_prog = w.new_prog; xform = w.xform; client = w.client; links = w.links; points = w.points } };
 
-    ghost invariant = { λ w. IsWorld (record { old_prog = w.old_prog; new_prog = w.new_prog; xform = w.xform; links = w.links; points = w.points }) };
+    ghost invariant = { λ w. IsWorld (record { old_prog = w.old_prog; new_prog = w.new_prog; xform = w.xform; client = w.client; links = w.links; points = w.points }) };
 }
 
 impl World {
     /// The world of these parts, which were made of each other: the versions were typed in the units
-    /// old and new, and the transformer, the links and the points were made of these two versions. It
-    /// takes no memory.
+    /// old and new, the transformer, the client and the links were made of these two versions, and the
+    /// points of the old version and the client. It takes no memory.
     pub fn new(
         old_prog: Typed,
         new_prog: Typed,
         xform: Xform,
+        client: Option<Client>,
         links: Links,
         points: Points,
     ) -> World
-        requires { IsWorld (record { old_prog = old_prog; new_prog = new_prog; xform = xform; links = links; points = points }) }
-        ensures { result ≡ record { old_prog = old_prog; new_prog = new_prog; xform = xform; links = links; points = points } }
+        requires { IsWorld (record { old_prog = old_prog; new_prog = new_prog; xform = xform; client = client; links = links; points = points }) }
+        ensures { result ≡ record { old_prog = old_prog; new_prog = new_prog; xform = xform; client = client; links = links; points = points } }
     {
         World {
             old_prog,
             new_prog,
             xform,
+            client,
             links,
             points,
         }
@@ -79,6 +84,14 @@ impl World {
         ensures made { IsWorld self.now }
     {
         &self.xform
+    }
+
+    /// The client, where there is one. It takes no memory.
+    pub fn client(&self) -> Option<&Client>
+        ensures client { option_copied result ≡ self.now.client }
+        ensures made { IsWorld self.now }
+    {
+        self.client.as_ref()
     }
 
     /// How the names of both versions are linked. It takes no memory.

@@ -1,4 +1,4 @@
-use Rattle.std.proofs.Common.{[], None, ap, ap₂, ◌∙◌}
+use Rattle.std.proofs.Common.{[], ap, ap₂, ◌∙◌}
 use Rattle.c_lang.specs.declared.stmt.Dest.TheVariants.{Nowhere}
 use Rattle.plain_run.specs.Steps.{Live, frame_of}
 use Rattle.update_semantics.specs.UpdatingRun.{updating_access, entry_code}
@@ -10,4 +10,4 @@ returns-clause-config c =
     let N = updating_access (world_of c.args.world.now) in
     c.in_ok-run.ensures.config N
     ∙ ap₂ (λ g code. Live g (frame_of N code [] Nowhere) []) c.in_ok-names.ensures.state
-    (c.main-main.ensures ∙ ap (λ w. entry_code (world_of w) None) c.in_ok-names.ensures.world)
+    (c.entry-entry.ensures ∙ ap (λ w. entry_code (world_of w) w.client) c.in_ok-names.ensures.world)
