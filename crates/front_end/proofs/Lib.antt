@@ -1,3 +1,4 @@
 pub mod ConditionLemmas
+pub mod PointLemmas
 pub mod TypedTextLemmas
 pub mod WorldLemmas

@@ -1,10 +1,10 @@
 -- What refuses a text in a stage, and what the stages give together.
-use Rattle.std.proofs.Common.{◌≡◌, ◌≤◌, ◌∙◌, sym, ap, subst, inl, inr, arith, ℕ, List, [], ◌∷◌, ◌++◌, length, Option, Some, None, Result, Ok, Err}
+use Rattle.std.proofs.Common.{◌≡◌, ◌≤◌, ◌∙◌, sym, ap, subst, inl, inr, arith, ℕ, List, [], ◌∷◌, ◌++◌, length, Option, Some, None, Result, Ok, Err, refl}
 use Rattle.std.specs.Prelude.{MatchResult}
 use Rattle.c_lang.specs.Names.{Bytes}
 use Rattle.c_lang.specs.Limits.{height_limit, size_limit}
 use Rattle.c_lang.specs.declared.unit.Unit.{Unit}
-use Rattle.c_lang.specs.declared.unit.Unit.TheVariants.{Old, New, Xform}
+use Rattle.c_lang.specs.declared.unit.Unit.TheVariants.{Old, New, Xform, Client}
 use Rattle.c_lang.specs.declared.refusal.Refusal.{Refusal}
 use Rattle.c_lang.specs.declared.refusal.Fail.{Fail}
 use Rattle.c_lang.specs.declared.refusal.Fail.TheVariants.{NoMemory, Refused}
@@ -24,12 +24,17 @@ use Rattle.update_points.specs.declared.points.Points.{Points}
 use Rattle.state_xform.specs.Kept as xform
 use Rattle.state_xform.specs.Transformers.{IsTransformer}
 use Rattle.state_xform.specs.Refusals as transformer
+use Rattle.client_specs.specs.Clients.{IsClient}
+use Rattle.client_specs.specs.Kept as client
+use Rattle.client_specs.specs.Kept.{ClientProgram}
 use Rattle.update_semantics.specs.UpdatingRun as run
 use Rattle.update_semantics.specs.Worlds.{World, world_of}
 use Rattle.front_end.specs.Conditions.{Condition, AllHold, IsRefusedBy}
 use Rattle.front_end.specs.TypedText.{IsTypedText}
-use Rattle.front_end.specs.Worlds.{Texts, has_tokens, is_program, is_typed, has_points, has_transformer, AreVersions, ParsesXform, size_conditions, token_conditions, grammar_conditions, type_conditions, update_conditions, conditions, IsWorldOf, IsAccepted}
-use Rattle.front_end.specs.Code.Stages.{AreTokens, AreParsed, AreTyped}
+use Rattle.front_end.specs.Worlds.{ClientText, Texts, of_client, has_tokens, is_program, is_typed, has_points, has_transformer, has_client, AreVersions, ParsesXform, ParsesClient, ParsesOptionalClient, IsOptionalClientOf, size_conditions, token_conditions, grammar_conditions, type_conditions, update_conditions, conditions, IsWorldOf, IsAccepted}
+use Rattle.front_end.specs.Code.Stages.{AreOptionalTokens, AreTokens, IsOptionalSource, AreParsed, AreTyped}
+use Rattle.front_end.specs.declared.worlds.ClientTokens.{ClientTokens}
+use Rattle.front_end.specs.declared.worlds.ClientSource.{ClientSource}
 use Rattle.front_end.specs.declared.worlds.Tokens.{Tokens}
 use Rattle.front_end.specs.declared.worlds.Programs.{Programs}
 use Rattle.front_end.specs.declared.worlds.Versions.{Versions}
@@ -78,15 +83,30 @@ module _ (u : Unit) (text : Bytes) where
   pub written : (source : Program) → length text ≤ size_limit u → Parses u (height_limit u) text source → IsWritten u source
   written source small is = is_written u (height_limit u) text source (omega arith) (may_be_written u (length text) small) is
 
+-- a client's text is one program
+one_source : (c : Option ClientText) (p q : Option Program) → ParsesOptionalClient c p → ParsesOptionalClient c q → p ≡ q
+one_source None None None h k = refl
+one_source None None (Some q) h k = absurd k
+one_source None (Some p) q h k = absurd h
+one_source (Some c) None q h k = absurd h
+one_source (Some c) (Some p) None h k = absurd k
+one_source (Some c) (Some p) (Some q) h k = ap Some (one_of_text Client (height_limit Client) (height_limit Client) c.text p q h k)
+
 module _ (listed : Option (List ℕ)) (ts : Texts) where
-  pub points_refused : (rest : List Condition) (first : Program) (f : Fail) → IsTypedText Old ts.old first → IsListed (all_points first None) listed (Err f)
-      → IsRefusedBy (has_points listed ts ∷ rest) f
-  points_refused rest first NoMemory is h = tt
-  points_refused rest first (Refused r) is h = inl (
-    λ other. none_is_some r (refusal_of (all_points first None) listed)
-        (subst (λ (p : Program). refusal_of (all_points p None) listed ≡ None) (one_typed Old ts.old other.0 first other.1 is) other.2) h,
-    (first, is, h),
+  pub points_refused : (rest : List Condition) (first : Program) (source : Option Program) (f : Fail) → IsTypedText Old ts.old first
+      → ParsesOptionalClient ts.client source → IsListed (all_points first source) listed (Err f) → IsRefusedBy (has_points listed ts ∷ rest) f
+  points_refused rest first source NoMemory is parses h = tt
+  points_refused rest first source (Refused r) is parses h = inl (
+    λ other. none_is_some r (refusal_of (all_points first source) listed)
+        (same other.0 other.1 other.2 other.3 other.4) h,
+    (first, source, is, parses, h),
   )
+    where
+      same : (p : Program) (s : Option Program) → IsTypedText Old ts.old p → ParsesOptionalClient ts.client s → refusal_of (all_points p s) listed ≡ None
+          → refusal_of (all_points first source) listed ≡ None
+      same p s typed that none =
+          subst (λ (x : Program). refusal_of (all_points x source) listed ≡ None) (one_typed Old ts.old p first typed is)
+          (subst (λ (x : Option Program). refusal_of (all_points p x) listed ≡ None) (one_source ts.client s source that parses) none)
 
   pub transformer_refused : (rest : List Condition) (first second source : Program) (f : Fail) → AreVersions ts first second → ParsesXform ts source
       → xform.IsChecked first second source (Err f) → IsRefusedBy (has_transformer ts ∷ rest) f
@@ -102,6 +122,20 @@ module _ (listed : Option (List ℕ)) (ts : Texts) where
           (subst (λ (x : Program). IsTransformer p x source) (one_typed New ts.new q second those.new are.new)
           (subst (λ (x : Program). IsTransformer p q x) (one_of_text Xform (height_limit Xform) (height_limit Xform) ts.xform s source that is) it))
 
+  pub client_refused : (c : ClientText) (first second source : Program) (f : Fail) → AreVersions ts first second → ParsesClient c source
+      → client.IsChecked first second c.spec source (Err f) → IsRefusedBy (has_client ts c ∷ []) f
+  client_refused c first second source NoMemory are is h = tt
+  client_refused c first second source (Refused r) are is h = inl (
+    λ other. h.0 (same other.0 other.1 other.2 other.3 other.4 other.5),
+    (first, second, source, are, is, h.1),
+  )
+    where
+      same : (p q s : Program) → AreVersions ts p q → ParsesClient c s → IsClient p q c.spec s → IsClient first second c.spec source
+      same p q s those that it =
+          subst (λ (x : Program). IsClient x second c.spec source) (one_typed Old ts.old p first those.old are.old)
+          (subst (λ (x : Program). IsClient p x c.spec source) (one_typed New ts.new q second those.new are.new)
+          (subst (λ (x : Program). IsClient p q c.spec x) (one_of_text Client (height_limit Client) (height_limit Client) c.text s source that is) it))
+
 -- what a check gives of a program that is written in its unit
 pub kept : (u : Unit) (source : Program) (t : TypedProgram) → IsWritten u source → IsChecked u source (Ok t) → IsKept t
 kept u source t is h =
@@ -112,6 +146,25 @@ kept u source t is h =
       typed = subst (λ (v : Unit). Types v source) there h.1;
       resolved = h.2;
     }
+
+-- ---- the client's conditions, where there is a client
+
+client_lexed : (c : Option ClientText) (tokens : Option ClientTokens) → AreOptionalTokens c tokens → AllHold (of_client (λ c. has_tokens Client c.text) c)
+client_lexed None tokens h = tt
+client_lexed (Some c) None h = absurd h
+client_lexed (Some c) (Some tokens) h = ((tokens.tokens.items, h.0), tt)
+
+client_parsed : (c : Option ClientText) (source : Option ClientSource) → IsOptionalSource c source → AllHold (of_client (λ c. is_program Client c.text) c)
+client_parsed None source h = tt
+client_parsed (Some c) None h = absurd h
+client_parsed (Some c) (Some source) h = ((source.program, h.0), tt)
+
+client_holds : (ts : Texts) (first second : Program) (c : Option ClientText) (source : Option Program) (kept : Option ClientProgram) → AreVersions ts first second
+    → ParsesOptionalClient c source → IsOptionalClientOf first second c source kept → AllHold (of_client (has_client ts) c)
+client_holds ts first second None source kept are parses h = tt
+client_holds ts first second (Some c) None kept are parses h = absurd parses
+client_holds ts first second (Some c) (Some source) None are parses h = absurd h
+client_holds ts first second (Some c) (Some source) (Some kept) are parses h = ((first, second, source, are, parses, h.0), tt)
 
 -- ---- all stages together
 
@@ -124,7 +177,7 @@ module _ (listed : Option (List ℕ)) (ts : Texts) (sizes : AllHold (size_condit
 
   module _ (tokens : Tokens) (cut : AreTokens ts tokens) where
     tokens_hold : AllHold (token_conditions ts)
-    tokens_hold = ((tokens.old.items, cut.old), ((tokens.new.items, cut.new), ((tokens.xform.items, cut.xform), tt)))
+    tokens_hold = ((tokens.old.items, cut.old), ((tokens.new.items, cut.new), ((tokens.xform.items, cut.xform), client_lexed ts.client tokens.client cut.client)))
 
     abbrev after_tokens : List Condition
     after_tokens = grammar_conditions ts ++ type_conditions ts ++ update_conditions listed ts
@@ -137,7 +190,7 @@ module _ (listed : Option (List ℕ)) (ts : Texts) (sizes : AllHold (size_condit
 
     module _ (programs : Programs) (are : AreParsed ts programs) where
       grammar_holds : AllHold (grammar_conditions ts)
-      grammar_holds = ((programs.old, are.versions.old), ((programs.new, are.versions.new), ((programs.xform, are.xform), tt)))
+      grammar_holds = ((programs.old, are.versions.old), ((programs.new, are.versions.new), ((programs.xform, are.xform), client_parsed ts.client programs.client are.client)))
 
       behind_grammar : (f : Fail) → IsRefusedBy (type_conditions ts ++ update_conditions listed ts) f → IsRefusedBy (conditions listed ts) f
       behind_grammar f h = behind_tokens f (fails-behind (grammar_conditions ts) (type_conditions ts ++ update_conditions listed ts) f grammar_holds h)
@@ -155,7 +208,9 @@ module _ (listed : Option (List ℕ)) (ts : Texts) (sizes : AllHold (size_condit
             (all-append (token_conditions ts) after_tokens tokens_hold
             (all-append (grammar_conditions ts) (type_conditions ts ++ update_conditions listed ts) grammar_holds
             (all-append (type_conditions ts) (update_conditions listed ts) types_hold
-            ((w.first, is.versions.old, is.told_apart), ((w.first, w.second, is.source, is.versions, is.parses, is.transformer), tt)))))
+            ((w.first, is.client_source, is.versions.old, is.client_parses, is.told_apart),
+            ((w.first, w.second, is.source, is.versions, is.parses, is.transformer),
+            client_holds ts w.first w.second ts.client is.client_source w.client is.versions is.client_parses is.client)))))
 
         pub accepted : (result : Result World Fail)
             → MatchResult result (λ w. IsWorldOf listed ts (world_of w)) (IsRefusedBy (update_conditions listed ts))

@@ -1,4 +1,5 @@
 pub mod Conditions
 pub mod TypedText
 pub mod Worlds
+pub mod Seen
 pub mod Code

@@ -2,8 +2,10 @@
 //! condition says that it doesn't meet.
 #![tactic(auto)]
 
+mod texts;
 mod typed;
 mod worlds;
 
+pub use texts::{ClientText, UpdateTexts};
 pub use typed::typed_text;
 pub use worlds::{accept, check_sizes};

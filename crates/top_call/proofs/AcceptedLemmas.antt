@@ -2,18 +2,15 @@
 use Rattle.std.proofs.Common.{◌≡◌, subst, ℕ, List, Option}
 use Rattle.c_lang.specs.declared.refusal.Refusal.{Refusal}
 use Rattle.front_end.specs.Conditions.{IsFirstRefusal}
-use Rattle.front_end.specs.Worlds.{texts, conditions, IsAccepted}
+use Rattle.front_end.specs.Worlds.{Texts, conditions, IsAccepted}
 use Rattle.update_semantics.specs.UpdatingRun.{World}
-use Rattle.top_call.specs.Words.{Text}
 
-module _ (l m : Option (List ℕ)) (a b c x y z : Text) (listed : l ≡ m) (old : a ≡ x) (new : b ≡ y) (xform : c ≡ z) where
-  of_texts : (P : Option (List ℕ) → Text → Text → Text → Type 0) → P l a b c → P m x y z
-  of_texts P h =
-      subst (λ (o : Option (List ℕ)). P o x y z) listed
-      (subst (λ (t : Text). P l x y t) xform (subst (λ (t : Text). P l x t c) new (subst (λ (t : Text). P l t b c) old h)))
+module _ (l m : Option (List ℕ)) (s t : Texts) (listed : l ≡ m) (same : s ≡ t) where
+  of_texts : (P : Option (List ℕ) → Texts → Type 0) → P l s → P m t
+  of_texts P h = subst (λ (o : Option (List ℕ)). P o t) listed (subst (λ (x : Texts). P l x) same h)
 
-  pub accepted_of_texts : (W : World) → IsAccepted l (texts a b c) W → IsAccepted m (texts x y z) W
-  accepted_of_texts W = of_texts (λ o old new xform. IsAccepted o (texts old new xform) W)
+  pub accepted_of_texts : (W : World) → IsAccepted l s W → IsAccepted m t W
+  accepted_of_texts W = of_texts (λ o x. IsAccepted o x W)
 
-  pub refused_of_texts : (refusal : Refusal) → IsFirstRefusal (conditions l (texts a b c)) refusal → IsFirstRefusal (conditions m (texts x y z)) refusal
-  refused_of_texts refusal = of_texts (λ o old new xform. IsFirstRefusal (conditions o (texts old new xform)) refusal)
+  pub refused_of_texts : (refusal : Refusal) → IsFirstRefusal (conditions l s) refusal → IsFirstRefusal (conditions m t) refusal
+  refused_of_texts refusal = of_texts (λ o x. IsFirstRefusal (conditions o x) refusal)

@@ -5,18 +5,18 @@ use Rattle.std.specs.Prelude.{◌⊎◌}
 use Rattle.std.specs.Io.KnownBytes.{Appends}
 use Rattle.c_lang.specs.Limits.{size_limit}
 use Rattle.c_lang.specs.declared.unit.Unit.{Unit}
-use Rattle.c_lang.specs.declared.unit.Unit.TheVariants.{Old, New, Xform}
-use Rattle.top_call.specs.Words.{Text, UpdateFiles, MergeRequest, Request, Merge}
+use Rattle.c_lang.specs.declared.unit.Unit.TheVariants.{Old, New, Xform, Client}
+use Rattle.top_call.specs.Words.{Text, ClientFile, UpdateFiles, MergeRequest, Request, Merge}
 use Rattle.top_call.specs.Replies.{Reply}
 use Rattle.top_call.specs.Held.{IsHeld}
 use Rattle.front_end.specs.Conditions.{Condition, AllHold}
 use Rattle.front_end.proofs.ConditionLemmas.{all-first, no-refusal}
-use Rattle.front_end.specs.Worlds.{Texts, size_conditions, token_conditions, grammar_conditions, type_conditions, update_conditions, conditions}
-use Rattle.top_call.specs.Merge.{AreHeld, MergeAllows}
+use Rattle.front_end.specs.Worlds.{ClientText, Texts, of_client, within_limit, size_conditions, token_conditions, grammar_conditions, type_conditions, update_conditions, conditions}
+use Rattle.top_call.specs.Merge.{IsHeldClient, AreHeld, MergeAllows}
 use Rattle.top_call.specs.MergedText.{IsMergedText}
 use Rattle.top_call.specs.Around.{Around, Put}
 use Rattle.top_call.specs.Outcome.{Outcome}
-use Rattle.top_call.specs.Headline.{Hold, HadNoFault, WritesMergedText, MergesWhatIsAccepted}
+use Rattle.top_call.specs.Headline.{HoldClient, Hold, HadNoFault, WritesMergedText, MergesWhatIsAccepted}
 use Rattle.top_call.specs.declared.status.Status.{Status}
 use Rattle.top_call.specs.declared.status.Status.TheVariants.{Done, NotProved, Refused, Usage, ReadFailed, WriteFailed, NoMemory, Deep}
 
@@ -36,11 +36,11 @@ pub read-accepted : (held : Text → Option Text) (unit : Unit) (name text all :
 read-accepted held unit name text all is_held known small =
     read-is held unit name text all is_held known ∙ take_all (size_limit unit + 1) all (omega arith)
 
-same-texts : (a b : Texts) → a.old ≡ b.old → a.new ≡ b.new → a.xform ≡ b.xform → a ≡ b
-same-texts a b old new xform =
-    ap (λ (t : Text). record a { old = t }) old
-    ∙ ap (λ (t : Text). record b { new = t; xform = a.xform }) new
-    ∙ ap (λ (t : Text). record b { xform = t }) xform
+same-texts : (a b : Texts) → a.old ≡ b.old → a.new ≡ b.new → a.xform ≡ b.xform → a.client ≡ b.client → a ≡ b
+same-texts a b old new xform client = λ i. record { old = old i; new = new i; xform = xform i; client = client i }
+
+same-client : (a b : ClientText) → a.text ≡ b.text → a.spec ≡ b.spec → Some a ≡ Some b
+same-client a b text spec = λ i. Some (record { text = text i; spec = spec i })
 
 pub appended : (before after : Option Text) (written text : Text) → before ≡ Some written → Appends before after text → after ≡ Some (written ++ text)
 appended None after written text is put = absurd (cc)
@@ -48,20 +48,44 @@ appended (Some old) None written text is put = absurd put
 appended (Some old) (Some new) written text is put =
     ap (λ (t : Text). Some t) (put ∙ ap (λ (t : Text). t ++ text) (let same : old ≡ written = cc in same))
 
+-- the client's text that was read, where it is within its limit
+client-whole : (around : Around) (file : Option ClientFile) (read held : Option ClientText) → HoldClient around file held → IsHeldClient around.held file read
+    → AllHold (of_client (λ c. within_limit Client c.text) read) → read ≡ held
+client-whole around None None None hold is small = refl
+client-whole around None None (Some c) hold is small = absurd hold
+client-whole around None (Some r) held hold is small = absurd is
+client-whole around (Some f) None held hold is small = absurd is
+client-whole around (Some f) (Some r) None hold is small = absurd hold
+client-whole around (Some f) (Some r) (Some c) hold is small =
+    same-client r c (read-whole around.held Client f.file r.text c.text is.0 hold.0 small.0) (is.1 ∙ sym hold.1)
+
+-- the same where what is held is within the limit
+client-accepted : (around : Around) (file : Option ClientFile) (read held : Option ClientText) → HoldClient around file held → IsHeldClient around.held file read
+    → AllHold (of_client (λ c. within_limit Client c.text) held) → read ≡ held
+client-accepted around None None None hold is small = refl
+client-accepted around None None (Some c) hold is small = absurd hold
+client-accepted around None (Some r) held hold is small = absurd is
+client-accepted around (Some f) None held hold is small = absurd is
+client-accepted around (Some f) (Some r) None hold is small = absurd hold
+client-accepted around (Some f) (Some r) (Some c) hold is small =
+    same-client r c (read-accepted around.held Client f.file r.text c.text is.0 hold.0 small.0) (is.1 ∙ sym hold.1)
+
 module _ (around : Around) (update : UpdateFiles) (texts : Texts) (hold : Hold around update texts) where
   -- the texts that were read, where they are within their limits
   pub whole-within : (read : Texts) → AreHeld around.held update read → AllHold (size_conditions read) → read ≡ texts
-  whole-within read held (old, (new, (xform, _))) =
+  whole-within read held (old, (new, (xform, client))) =
       same-texts read texts (read-whole around.held Old update.old read.old texts.old held.old hold.old old)
       (read-whole around.held New update.new read.new texts.new held.new hold.new new)
       (read-whole around.held Xform update.xform read.xform texts.xform held.xform hold.xform xform)
+      (client-whole around update.client read.client texts.client hold.client held.client client)
 
   -- the same where what is held is within the limits
   pub within-whole : (read : Texts) → AreHeld around.held update read → AllHold (size_conditions texts) → texts ≡ read
-  within-whole read held (old, (new, (xform, _))) =
+  within-whole read held (old, (new, (xform, client))) =
       sym (same-texts read texts (read-accepted around.held Old update.old read.old texts.old held.old hold.old old)
       (read-accepted around.held New update.new read.new texts.new held.new hold.new new)
-      (read-accepted around.held Xform update.xform read.xform texts.xform held.xform hold.xform xform))
+      (read-accepted around.held Xform update.xform read.xform texts.xform held.xform hold.xform xform)
+      (client-accepted around update.client read.client texts.client hold.client held.client client))
 
 module _ (around : Around) (merge : MergeRequest) (ts : Texts) (hold : Hold around merge.files ts) where
   abbrev behind_sizes : Texts → List Condition

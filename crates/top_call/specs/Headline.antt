@@ -1,12 +1,12 @@
 -- What `merge`, `run` and `replay` owe where files and sink tell their bytes, as those in memory do. For the operating
 -- system's files and standard output that is trusted.
-use Rattle.std.specs.Prelude.{◌≡◌, ◌++◌, Option, Some, ◌⊎◌}
+use Rattle.std.specs.Prelude.{⊤, ◌≡◌, ◌++◌, Option, Some, None, ◌⊎◌}
 use Rattle.outside.specs.Counts.{Rose}
 use Rattle.c_lang.specs.declared.unit.Unit.TheVariants as unit
 use Rattle.c_lang.specs.declared.program.Program.{Program}
-use Rattle.top_call.specs.Words.{Text, UpdateFiles, MergeRequest, RunRequest, ReplayRequest, Request, Merge, Run, Replay}
+use Rattle.top_call.specs.Words.{Text, ClientFile, UpdateFiles, MergeRequest, RunRequest, ReplayRequest, Request, Merge, Run, Replay}
 use Rattle.front_end.specs.Conditions.{AllHold}
-use Rattle.front_end.specs.Worlds.{Texts, conditions}
+use Rattle.front_end.specs.Worlds.{ClientText, Texts, conditions}
 use Rattle.top_call.specs.MergedText.{IsMergedText}
 use Rattle.front_end.specs.TypedText.{IsTypedText}
 use Rattle.top_call.specs.Run.{IsRunOf, GoesTooDeep}
@@ -15,11 +15,18 @@ use Rattle.top_call.specs.Around.{Around}
 use Rattle.top_call.specs.declared.status.Status.{Status}
 use Rattle.top_call.specs.declared.status.Status.TheVariants.{Done, NoMemory, Deep}
 
+-- There is no client, or the files hold this text under its name.
+abbrev pub HoldClient : Around → Option ClientFile → Option ClientText → Type 0
+HoldClient around None None = ⊤
+HoldClient around (Some client) (Some c) = (around.held client.file ≡ Some c.text) × (c.spec ≡ client.spec)
+HoldClient around _ _ = ⊥
+
 -- The files hold these texts under the names of the request.
 pub record Hold (around : Around) (update : UpdateFiles) (texts : Texts) : Type 0 where
   pub old : around.held update.old ≡ Some texts.old
   pub new : around.held update.new ≡ Some texts.new
   pub xform : around.held update.xform ≡ Some texts.xform
+  pub client : HoldClient around update.client texts.client
 
 -- With `Done` the sink gained the merged text of what the files hold.
 abbrev pub WritesMergedText : Around → Option Request → Status → Type 0

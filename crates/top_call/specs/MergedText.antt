@@ -12,9 +12,9 @@ use Rattle.update_semantics.specs.UpdatingRun.{World, ObsU}
 use Rattle.front_end.specs.Worlds.{Texts, IsAccepted}
 use Rattle.top_call.specs.Words.{Text}
 
--- The three texts are accepted as a world. The written text is exactly one program, which is typed, and its
--- observable prefixes are exactly those of the world's updating run: of the old version, updated once at most,
--- at a permitted point.
+-- The texts are accepted as a world. The written text is exactly one program, which is typed, and its
+-- observable prefixes are exactly those of the world's updating run: of the old version, or of the client, updated
+-- once at most, at a permitted point or at the client's force.
 pub record IsMergedText (points : Option (List ℕ)) (ts : Texts) (text : Text) : Type 0 where
   pub world : World
   pub accepted : IsAccepted points ts world

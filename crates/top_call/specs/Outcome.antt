@@ -11,10 +11,10 @@ use Rattle.top_call.specs.declared.status.Status.{Status}
 use Rattle.top_call.specs.declared.status.Status.TheVariants.{Done, NotProved, Refused, Usage, ReadFailed, WriteFailed, NoMemory, Deep}
 
 -- A line for each command: the files that it names, and what it may reply.
-abbrev pub files_of : Request → List Text
-files_of (Merge merge) = names_of merge.files
-files_of (Run run) = run.file ∷ []
-files_of (Replay replay) = names_of replay.files
+abbrev pub named_files : Request → List Text
+named_files (Merge merge) = names_of merge.files
+named_files (Run run) = run.file ∷ []
+named_files (Replay replay) = names_of replay.files
 
 abbrev pub Allows : (Text → Option Text) → Request → Reply → Type 0
 Allows held (Merge merge) reply = MergeAllows held merge reply
@@ -46,7 +46,7 @@ Outcome around request Usage = IsNone request × Put around usage_line
 Outcome around request ReadFailed =
     Rose around.read_faults_before around.read_faults_after
     × PutNothing around
-    × IsSomeAnd request (λ asked. Contains (files_of asked) around.asked)
+    × IsSomeAnd request (λ asked. Contains (named_files asked) around.asked)
 Outcome around request WriteFailed =
     Rose around.write_faults_before around.write_faults_after
     × ((text : Text) × MayPut around.held request text × PutInPart around text)

@@ -5,6 +5,7 @@ use Rattle.std.specs.declared.alloc.Global.{Global}
 use Rattle.top_call.specs.Words as plain
 use Rattle.front_end.specs.Worlds as worlds
 use Rattle.top_call.specs.Replies as replies
+use Rattle.top_call.specs.declared.words.ClientFile.{ClientFile}
 use Rattle.top_call.specs.declared.words.UpdateFiles.{UpdateFiles}
 use Rattle.top_call.specs.declared.words.Request.{Request}
 use Rattle.top_call.specs.declared.words.Request.TheVariants.{Merge, Run, Replay}
@@ -13,14 +14,23 @@ use Rattle.top_call.specs.declared.merge_words.MergeRequest.{MergeRequest}
 use Rattle.top_call.specs.declared.replay_words.ReplayRequest.{ReplayRequest}
 use Rattle.top_call.specs.declared.option_words.Chosen.{Chosen}
 use Rattle.top_call.specs.declared.option_words.Chosen.TheVariants.{Nothing, One, Several}
+use Rattle.top_call.specs.declared.texts.ClientText.{ClientText}
 use Rattle.top_call.specs.declared.texts.Texts.{Texts}
 use Rattle.top_call.specs.declared.reply.Reply.{Reply}
 
-abbrev pub seen_update_files : UpdateFiles → plain.UpdateFiles
-seen_update_files update = record { old = update.old.now; new = update.new.now; xform = update.xform.now }
-
 abbrev pub seen_text : Bor plain.Text → plain.Text
 seen_text text = text.now
+
+abbrev pub seen_client_file : ClientFile → plain.ClientFile
+seen_client_file client = record { file = client.file.now; spec = client.spec.now }
+
+abbrev pub seen_update_files : UpdateFiles → plain.UpdateFiles
+seen_update_files update = record {
+  old = update.old.now;
+  new = update.new.now;
+  xform = update.xform.now;
+  client = option_map seen_client_file update.client;
+}
 
 abbrev pub seen_numbers : Vec ℤ Global → List ℤ
 seen_numbers numbers = numbers.items
@@ -30,6 +40,10 @@ seen_run run = record { file = run.file.now; answers = run.answers.items; steps 
 
 abbrev pub seen_naturals : Vec ℕ Global → List ℕ
 seen_naturals numbers = numbers.items
+
+-- a name that is given, or none is
+abbrev pub seen_spec : Option (Bor plain.Text) → Option plain.Text
+seen_spec spec = option_map seen_text spec
 
 -- points that are listed, or none are
 abbrev pub seen_points : Option (Vec ℕ Global) → Option (List ℕ)
@@ -60,5 +74,13 @@ IsChosen texts Several = 1 < length texts
 abbrev pub seen_reply : Reply → replies.Reply
 seen_reply reply = record { status = reply.status; text = reply.text.items }
 
+abbrev pub seen_client_text : ClientText → worlds.ClientText
+seen_client_text client = record { text = client.text.items; spec = client.spec.now }
+
 abbrev pub seen_texts : Texts → worlds.Texts
-seen_texts texts = record { old = texts.old.items; new = texts.new.items; xform = texts.xform.items }
+seen_texts texts = record {
+  old = texts.old.items;
+  new = texts.new.items;
+  xform = texts.xform.items;
+  client = option_map seen_client_text texts.client;
+}

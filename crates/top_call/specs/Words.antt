@@ -7,11 +7,17 @@ use Rattle.top_call.specs.Numbers.{answers_of, points_of, default_steps, steps_o
 abbrev pub Text : Type 0
 Text = List ℕ
 
+-- the name of a client's file, and that of the function with which a run begins
+pub record ClientFile : Type 0 where
+  pub file : Text
+  pub spec : Text
+
 -- the names of the files of an update
 pub record UpdateFiles : Type 0 where
   pub old : Text
   pub new : Text
   pub xform : Text
+  pub client : Option ClientFile
 
 -- the files of an update, and the points that may update where they are listed
 pub record MergeRequest : Type 0 where
@@ -41,9 +47,12 @@ pub data Request : Type 0 where
 abbrev pub is_option : Text → Bool
 is_option word = starts_with nat_eq word (codes "-")
 
-abbrev pub three_files : List Text → Option UpdateFiles
-three_files (old ∷ new ∷ xform ∷ []) = Some (record { old = old; new = new; xform = xform })
-three_files _ = None
+-- three files, or four where the name of a client's function is given
+abbrev pub update_files : List Text → Option Text → Option UpdateFiles
+update_files (old ∷ new ∷ xform ∷ []) None = Some (record { old = old; new = new; xform = xform; client = None })
+update_files (old ∷ new ∷ xform ∷ client ∷ []) (Some spec) =
+    Some (record { old = old; new = new; xform = xform; client = Some (record { file = client; spec = spec }) })
+update_files files spec = None
 
 -- ---- words in any order
 
@@ -74,14 +83,17 @@ steps_name = codes "--steps="
 abbrev pub points_name : Text
 points_name = codes "--points="
 
+abbrev pub spec_name : Text
+spec_name = codes "--spec="
+
 abbrev pub is_merge_word : Text → Bool
-is_merge_word word = not (is_option word) || starts_with nat_eq word points_name
+is_merge_word word = not (is_option word) || (starts_with nat_eq word points_name || starts_with nat_eq word spec_name)
 
 abbrev pub is_run_word : Text → Bool
 is_run_word word = not (is_option word) || (starts_with nat_eq word answers_name || starts_with nat_eq word steps_name)
 
 abbrev pub is_replay_word : Text → Bool
-is_replay_word word = is_run_word word || starts_with nat_eq word points_name
+is_replay_word word = is_run_word word || (starts_with nat_eq word points_name || starts_with nat_eq word spec_name)
 
 -- an option's value, or what stands where it isn't given; none where it is given twice
 abbrev pub option_value : {X : Type 0} → (Text → Option X) → X → List Text → Option X
@@ -106,6 +118,18 @@ run_of words =
     (option_value steps_of default_steps (chosen (behind steps_name) words))
     else None
 
+-- the name that a value is
+abbrev pub named : Text → Option (Option Text)
+named text = Some (Some text)
+
+abbrev pub files_with : List Text → Option (Option Text) → Option UpdateFiles
+files_with files None = None
+files_with files (Some spec) = update_files files spec
+
+-- the files of an update, with a fourth one exactly where the name of a client's function is given, once
+abbrev pub files_of : List Text → Option UpdateFiles
+files_of words = files_with (chosen file_in words) (option_value named None (chosen (behind spec_name) words))
+
 -- the points that a value lists
 abbrev pub listed : Text → Option (Option (List ℕ))
 listed text = option_map Some (points_of text)
@@ -114,11 +138,11 @@ abbrev pub merge_with : Option UpdateFiles → Option (Option (List ℕ)) → Op
 merge_with (Some files) (Some points) = Some (record { files = files; points = points })
 merge_with files points = None
 
--- three files, and the points at most once, in any order
+-- the files of an update, and the points at most once, in any order
 abbrev pub merge_of : List Text → Option MergeRequest
 merge_of words =
     if list_all is_merge_word words
-    then merge_with (three_files (chosen file_in words)) (option_value listed None (chosen (behind points_name) words))
+    then merge_with (files_of words) (option_value listed None (chosen (behind points_name) words))
     else None
 
 abbrev pub replay_with : Option UpdateFiles → Option (Option (List ℕ)) → Option (List ℤ) → Option ℕ → Option ReplayRequest
@@ -126,12 +150,12 @@ replay_with (Some files) (Some points) (Some answers) (Some steps) =
     Some (record { files = files; points = points; answers = answers; steps = steps })
 replay_with files points answers steps = None
 
--- three files, and each option at most once, in any order
+-- the files of an update, and each option at most once, in any order
 abbrev pub replay_of : List Text → Option ReplayRequest
 replay_of words =
     if list_all is_replay_word words
     then
-    replay_with (three_files (chosen file_in words)) (option_value listed None (chosen (behind points_name) words))
+    replay_with (files_of words) (option_value listed None (chosen (behind points_name) words))
     (option_value answers_of [] (chosen (behind answers_name) words)) (option_value steps_of default_steps (chosen (behind steps_name) words))
     else None
 

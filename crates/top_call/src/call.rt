@@ -4,7 +4,7 @@ ghost use Rattle.top_call.specs.Seen.{seen, seen_reply};
 ghost use Rattle.top_call.specs.Held.{HasReadCause};
 ghost use Rattle.top_call.specs.Around.{Puts, around};
 ghost use Rattle.top_call.specs.Headline.{MergesWhatIsAccepted, ReplaysWhatIsAccepted, RunsWhatIsAccepted, WritesEvents, WritesMergedText, WritesUpdatedEvents};
-ghost use Rattle.top_call.specs.Outcome.{Outcome, Allows, GoesDeep, files_of, PutsNothing};
+ghost use Rattle.top_call.specs.Outcome.{Outcome, Allows, GoesDeep, named_files, PutsNothing};
 
 use crate::merge::merge_reply;
 use crate::replay::replay_reply;
@@ -91,7 +91,7 @@ fn answer<F: Files, S: Sink>(
 fn reply_to<F: Files>(alloc: Global, request: &Request<'_>, files: &mut F) -> Result<Reply, Stop>
     ensures reply { IfOk result (λ reply. Allows (F.held files.old) (seen request.now) (seen_reply reply)) }
     ensures deep { IsErrOf result Stop.Deep → GoesDeep (F.held files.old) (seen request.now) }
-    ensures cause { HasReadCause (files_of (seen request.now))
+    ensures cause { HasReadCause (named_files (seen request.now))
         (F.faults files.old) (F.faults files.new) (F.failed files.new) result }
 {
     match request {

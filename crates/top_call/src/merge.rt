@@ -38,17 +38,11 @@ pub(crate) fn merge_reply<F: Files>(
 fn reply_to_texts(
     alloc: Global,
     request: &MergeRequest<'_>,
-    texts: &Texts,
+    texts: &Texts<'_>,
 ) -> Result<Reply, AllocError>
     ensures { IfOk result (λ reply. Merges (seen_merge request.now) (seen_texts texts.now) (seen_reply reply)) }
 {
-    match accept(
-        alloc,
-        &texts.old,
-        &texts.new,
-        &texts.xform,
-        request.listed(),
-    ) {
+    match accept(alloc, &texts.texts(), request.listed()) {
         Ok(world) => reply_of_world(alloc, request, world.get()),
         Err(Fail::Refused(refusal)) => refuse(alloc, &refusal),
         Err(Fail::NoMemory) => Err(AllocError),

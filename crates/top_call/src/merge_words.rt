@@ -32,8 +32,8 @@ fn are_merge_words(words: &[String]) -> bool
     words.iter().all(|word| is_merge_word(word.as_str()))
 }
 
-/// What the words behind `merge` ask for: three files, and `--points=LIST` at most once, in any order. Any
-/// other words ask for nothing. The only error is want of memory.
+/// What the words behind `merge` ask for: three files, a fourth exactly where `--spec=NAME` is given, and that
+/// and `--points=LIST` at most once each, in any order. Any other words ask for nothing. The only error is want of memory.
 pub(crate) fn read_merge<'a>(
     alloc: Global,
     words: &'a [String],

@@ -5,10 +5,10 @@ ghost use Rattle.std.specs.Option.{option_copied};
 ghost use Rattle.c_lang.specs.Names.{behind};
 ghost use Rattle.top_call.specs.Numbers as numbers;
 ghost use Rattle.top_call.specs.Words as spec;
-ghost use Rattle.top_call.specs.Seen.{IsChosen, seen_numbers, seen_points, seen_text, seen_update_files};
+ghost use Rattle.top_call.specs.Seen.{IsChosen, seen_numbers, seen_points, seen_spec, seen_text, seen_update_files};
 
 use crate::numbers::{answers_of, points_of, steps_of};
-use crate::words::{UpdateFiles, is_option};
+use crate::words::{ClientFile, UpdateFiles, is_option};
 use std::alloc::{AllocError, Global};
 
 const ANSWERS: &str = "--answers=";
@@ -16,6 +16,8 @@ const ANSWERS: &str = "--answers=";
 const POINTS: &str = "--points=";
 
 const STEPS: &str = "--steps=";
+
+const SPEC: &str = "--spec=";
 
 // The steps of a run whose words name no number.
 const DEFAULT_STEPS: u32 = 1_000_000;
@@ -82,25 +84,58 @@ pub(crate) fn files_in<'a>(alloc: Global, words: &'a [String]) -> Result<Vec<&'a
     Ok(files)
 }
 
-/// The three files of an update, where the words name three files. The only error is want of memory.
+// The name of a client's function that the words give, if they do; `None` where they give several.
+fn spec_given<'a>(words: &'a [String]) -> Option<Option<&'a str>>
+    ensures { option_map seen_spec result ≡ spec.option_value spec.named None (spec.chosen (behind spec.spec_name) (map string_bytes words.entry.now)) }
+{
+    match values_of(words, SPEC) {
+        Chosen::Nothing => Some(None),
+        Chosen::One(text) => Some(Some(text)),
+        Chosen::Several => None,
+    }
+}
+
+// Three files, or four where the name of a client's function is given.
+fn update_files<'a>(files: &[&'a str], spec: Option<&'a str>) -> Option<UpdateFiles<'a>>
+    ensures { option_map seen_update_files result ≡ spec.update_files (map seen_text files.now) (option_map seen_text spec.entry) }
+{
+    match (files, spec) {
+        ([old, new, xform], None) => Some(UpdateFiles {
+            old,
+            new,
+            xform,
+            client: None,
+        }),
+        ([old, new, xform, file], Some(spec)) => Some(UpdateFiles {
+            old,
+            new,
+            xform,
+            client: Some(ClientFile { file, spec }),
+        }),
+        _ => None,
+    }
+}
+
+/// The files of an update: three, or four where the words name a client's function, too. The only error is
+/// want of memory.
 pub(crate) fn update_files_in<'a>(
     alloc: Global,
     words: &'a [String],
 ) -> Result<Option<UpdateFiles<'a>>, AllocError>
-    ensures { IfOk result (λ files. option_map seen_update_files files ≡ spec.three_files (spec.chosen spec.file_in (map string_bytes words.entry.now))) }
+    ensures { IfOk result (λ files. option_map seen_update_files files ≡ spec.files_of (map string_bytes words.entry.now)) }
 {
+    let Some(spec) = spec_given(words) else {
+        return Ok(None);
+    };
     let files = files_in(alloc, words)?;
-    match files.as_slice() {
-        [old, new, xform] => Ok(Some(UpdateFiles { old, new, xform })),
-        _ => Ok(None),
-    }
+    Ok(update_files(files.as_slice(), spec))
 }
 
 /// Whether the word is a file or an option of a merge.
 pub(crate) fn is_merge_word(word: &str) -> bool
     ensures { result ≡ spec.is_merge_word word.now }
 {
-    !is_option(word) || value_in(word, POINTS).is_some()
+    !is_option(word) || value_in(word, POINTS).is_some() || value_in(word, SPEC).is_some()
 }
 
 /// Whether the word is a file or an option of a run.
@@ -114,7 +149,7 @@ pub(crate) fn is_run_word(word: &str) -> bool
 pub(crate) fn is_replay_word(word: &str) -> bool
     ensures { result ≡ spec.is_replay_word word.now }
 {
-    is_run_word(word) || value_in(word, POINTS).is_some()
+    is_run_word(word) || value_in(word, POINTS).is_some() || value_in(word, SPEC).is_some()
 }
 
 /// The answers that the words list, none where they name no list, and `None` where they name no list that

@@ -41,12 +41,12 @@ pub(crate) fn replay_reply<F: Files>(
 fn reply_to_texts(
     alloc: Global,
     replay: &ReplayRequest<'_>,
-    texts: &Texts,
+    texts: &Texts<'_>,
 ) -> Result<Reply, RunError>
     ensures reply { IfOk result (λ reply. Replays (seen_replay replay.now) (seen_texts texts.now) (seen_reply reply)) }
     ensures deep { IsErrOf result RunError.Deep → ReplaysTooDeep (seen_replay replay.now) (seen_texts texts.now) }
 {
-    match accept(alloc, &texts.old, &texts.new, &texts.xform, replay.listed()) {
+    match accept(alloc, &texts.texts(), replay.listed()) {
         Ok(world) => reply_of_world(alloc, replay, world.get()),
         Err(Fail::Refused(refusal)) => Ok(refuse(alloc, &refusal)?),
         Err(Fail::NoMemory) => Err(RunError::NoMemory),

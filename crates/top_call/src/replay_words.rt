@@ -37,8 +37,8 @@ fn are_replay_words(words: &[String]) -> bool
     words.iter().all(|word| is_replay_word(word.as_str()))
 }
 
-/// What the words behind `replay` ask for: three files, and `--points=LIST`, `--answers=LIST` and
-/// `--steps=N` at most once each, in any order. Any other words ask for nothing. The only error is want of
+/// What the words behind `replay` ask for: three files, a fourth exactly where `--spec=NAME` is given, and that,
+/// `--points=LIST`, `--answers=LIST` and `--steps=N` at most once each, in any order. Any other words ask for nothing. The only error is want of
 /// memory.
 pub(crate) fn read_replay<'a>(
     alloc: Global,

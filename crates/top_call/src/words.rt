@@ -9,12 +9,20 @@ use crate::replay_words::{ReplayRequest, read_replay};
 use crate::run_words::{RunRequest, read_run};
 use std::alloc::{AllocError, Global};
 
+/// The name of a client's file, and that of the function with which a run begins.
+#[derive(Clone, Copy, Debug)]
+pub(crate) struct ClientFile<'a> {
+    pub file: &'a str,
+    pub spec: &'a str,
+}
+
 /// The names of the files of an update.
 #[derive(Clone, Copy, Debug)]
 pub(crate) struct UpdateFiles<'a> {
     pub old: &'a str,
     pub new: &'a str,
     pub xform: &'a str,
+    pub client: Option<ClientFile<'a>>,
 }
 
 /// What the words ask for.

@@ -193,20 +193,14 @@ impl<'p> Environment<'p> for UpdatedNames<'p> {
                     Decision::Skip
                 }
             }
-            Stmt::Force { .. } => {
-                if self.is_old() {
-                    Decision::Update
-                } else {
-                    Decision::Skip
-                }
-            }
-            Stmt::Pick { after, before, .. } => {
-                if self.is_old() {
-                    picked(before.get())
-                } else {
-                    picked(after.get())
-                }
-            }
+            Stmt::Force { .. } => match self.state.version {
+                Version::Old => Decision::Update,
+                Version::New => Decision::Skip,
+            },
+            Stmt::Pick { after, before, .. } => match self.state.version {
+                Version::Old => picked(before.get()),
+                Version::New => picked(after.get()),
+            },
             Stmt::Skip { .. }
             | Stmt::Set { .. }
             | Stmt::SetElem { .. }

@@ -9,7 +9,7 @@ use Rattle.top_call.proofs.merge.reply_to_texts.Goals as goal
 pub returns-in-Ok : goal.returns-in-Ok
 returns-in-Ok c =
     let ts = seen_texts c.args.texts.now in
-    let accepted = accepted_of_texts _ _ _ _ _ _ _ _ c.listed.ensures c.deref.ensures.value c.deref-2.ensures.value c.deref-3.ensures.value _ c.in-Ok.ensures in
+    let accepted = accepted_of_texts _ _ _ _ c.listed.ensures c.texts.ensures _ c.in-Ok.ensures in
     c.reply_of_world.ensures ts (subst (λ (w : World). IsAccepted (seen_merge c.args.request.now).points ts (world_of w)) (sym c.get.ensures) accepted)
 
 pub returns-in-Err-Refused : goal.returns-in-Err-Refused
@@ -18,7 +18,7 @@ returns-in-Err-Refused c =
     IfOk-weaker c.refuse.result _ _
     (λ reply is. inl (
       refused.refusal,
-      refused_of_texts _ _ _ _ _ _ _ _ c.listed.ensures c.deref.ensures.value c.deref-2.ensures.value c.deref-3.ensures.value refused.refusal
+      refused_of_texts _ _ _ _ c.listed.ensures c.texts.ensures refused.refusal
           (rw refused.field-0-is at refused.ensures),
       is,
     )) c.refuse.ensures
