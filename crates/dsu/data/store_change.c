@@ -1,0 +1,1 @@
+void dsu_transform(void) { dsu_new_puts = 0; }
