@@ -84,9 +84,9 @@ ParsesOptionalClient _ _ = ⊥
 -- the points of the old program and of the client are told apart, and each listed number is that of one
 abbrev pub has_points : Option (List ℕ) → Texts → Condition
 has_points listed ts = record {
-  Holds = (first : Program) (source : Option Program) × IsTypedText Old ts.old first × ParsesOptionalClient ts.client source
+  Holds = (first : Program) × (source : Option Program) × IsTypedText Old ts.old first × ParsesOptionalClient ts.client source
       × (refusal_of (all_points first source) listed ≡ None);
-  Refuses = λ r. (first : Program) (source : Option Program) × IsTypedText Old ts.old first × ParsesOptionalClient ts.client source
+  Refuses = λ r. (first : Program) × (source : Option Program) × IsTypedText Old ts.old first × ParsesOptionalClient ts.client source
       × (refusal_of (all_points first source) listed ≡ Some r);
 }
 
