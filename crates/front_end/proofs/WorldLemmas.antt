@@ -170,17 +170,17 @@ client_holds ts first second (Some c) (Some source) (Some kept) are parses h = (
 
 module _ (listed : Option (List ℕ)) (ts : Texts) (sizes : AllHold (size_conditions ts)) where
   abbrev after_sizes : List Condition
-  after_sizes = token_conditions ts ++ grammar_conditions ts ++ type_conditions ts ++ update_conditions listed ts
+  after_sizes = token_conditions ts ++ (grammar_conditions ts ++ (type_conditions ts ++ update_conditions listed ts))
 
   pub refused_by_tokens : (f : Fail) → IsRefusedBy (token_conditions ts) f → IsRefusedBy (conditions listed ts) f
-  refused_by_tokens f h = fails-behind (size_conditions ts) after_sizes f sizes (fails-here (token_conditions ts) (grammar_conditions ts ++ type_conditions ts ++ update_conditions listed ts) f h)
+  refused_by_tokens f h = fails-behind (size_conditions ts) after_sizes f sizes (fails-here (token_conditions ts) (grammar_conditions ts ++ (type_conditions ts ++ update_conditions listed ts)) f h)
 
   module _ (tokens : Tokens) (cut : AreTokens ts tokens) where
     tokens_hold : AllHold (token_conditions ts)
     tokens_hold = ((tokens.old.items, cut.old), ((tokens.new.items, cut.new), ((tokens.xform.items, cut.xform), client_lexed ts.client tokens.client cut.client)))
 
     abbrev after_tokens : List Condition
-    after_tokens = grammar_conditions ts ++ type_conditions ts ++ update_conditions listed ts
+    after_tokens = grammar_conditions ts ++ (type_conditions ts ++ update_conditions listed ts)
 
     behind_tokens : (f : Fail) → IsRefusedBy after_tokens f → IsRefusedBy (conditions listed ts) f
     behind_tokens f h = fails-behind (size_conditions ts) after_sizes f sizes (fails-behind (token_conditions ts) after_tokens f tokens_hold h)

@@ -123,7 +123,8 @@ update_conditions listed ts = has_points listed ts ∷ has_transformer ts ∷ of
 
 -- what the texts must meet, where these points are listed or none are
 abbrev pub conditions : Option (List ℕ) → Texts → List Condition
-conditions listed ts = size_conditions ts ++ token_conditions ts ++ grammar_conditions ts ++ type_conditions ts ++ update_conditions listed ts
+conditions listed ts =
+    size_conditions ts ++ (token_conditions ts ++ (grammar_conditions ts ++ (type_conditions ts ++ update_conditions listed ts)))
 
 -- ---- the world
 
