@@ -1,5 +1,5 @@
 -- The merged program of a world shows what its updating run shows.
-use Rattle.std.proofs.Common.{◌≡◌, ℕ, ℤ, ◌≤◌, Bool, true, false, if◌then◌else◌, List, [], ◌∷◌, ◌++◌, map, Option, Some, None, refl, sym, ap, ◌∙◌, subst, length, codes, ◌↔◌}
+use Rattle.std.proofs.Common.{◌≡◌, ℤ, ◌≤◌, Bool, true, false, if◌then◌else◌, List, [], ◌∷◌, ◌++◌, map, Option, Some, None, refl, sym, ap, ◌∙◌, subst, length, codes, ◌↔◌}
 use Rattle.c_lang.specs.Names.{Bytes}
 use Rattle.c_lang.specs.Limits.{parameter_limit}
 use Rattle.c_lang.specs.Trees.{stmts_of}
@@ -18,7 +18,7 @@ use Rattle.c_lang.specs.declared.program.Func.{Func}
 use Rattle.c_lang.specs.declared.program.Program.{Program}
 use Rattle.plain_run.specs.Moves.{Goes}
 use Rattle.plain_run.specs.Steps as steps
-use Rattle.plain_run.specs.Steps.{Item, Does, Live}
+use Rattle.plain_run.specs.Steps.{Does, Live}
 use Rattle.plain_run.specs.PlainRun.{PlainFrame, PlainConfig, plain_access, dropped, step, start, Obs}
 use Rattle.plain_run.proofs.Simulation.{Comes, silently, goes_once}
 use Rattle.version_names.specs.Links.{is_shared_code}
