@@ -5,27 +5,28 @@ use Rattle.std.proofs.lemmas.Slice.Eq.{bytes_eq-Decides}
 use Rattle.c_lang.specs.Names.{Bytes}
 use Rattle.c_lang.specs.Values.{Value, Num, Code, Null}
 use Rattle.plain_run.specs.Steps as steps
-use Rattle.plain_run.specs.Steps.{updated, local_or, Locals}
+use Rattle.plain_run.specs.Steps.{updated, local_or, Locals, Does}
 use Rattle.c_lang.specs.Programs.{func_named, func_in}
 use Rattle.plain_run.specs.PlainRun.{Store, PlainFrame, plain_access}
 use Rattle.version_names.specs.Links.{part, is_shared_code}
-use Rattle.version_names.specs.Version.{Version}
+use Rattle.version_names.specs.Version.{Version, is_old}
 use Rattle.version_names.specs.Version as version
 use Rattle.version_names.specs.Home.{Home, Linked}
 use Rattle.version_names.specs.Home as home
 use Rattle.version_names.specs.Provenance.{Provenance}
 use Rattle.version_names.specs.Provenance as origin
-use Rattle.update_semantics.specs.UpdatingRun.{State, UpdFrame, function_meaning, code_of, updating_access}
+use Rattle.update_semantics.specs.UpdatingRun.{State, UpdFrame, client_funcs, function_meaning, code_of, updating_access}
 use Rattle.c_lang.specs.declared.unit.Pos.{Pos}
 use Rattle.c_lang.specs.declared.expr.Expr.TheVariants.{Var}
 use Rattle.c_lang.specs.declared.stmt.Kind.{Kind}
-use Rattle.c_lang.specs.declared.stmt.Stmt.{Stmt}
+use Rattle.c_lang.specs.declared.stmt.Stmt.{Stmt, out-Stmt}
 use Rattle.c_lang.specs.declared.stmt.Stmt.TheOpen.{Stmt-F}
 use Rattle.c_lang.specs.declared.stmt.Stmt.TheOpen as one
 use Rattle.merged_program.specs.Names.{now_name}
 use Rattle.merged_runs.proofs.MergedStatements.{wrapper_body}
 use Rattle.merged_runs.proofs.EvaluationRenamed.{renamed_value, ev-Var}
-use Rattle.merged_runs.proofs.Relation.{Merging, can_stand}
+use Rattle.merged_runs.proofs.ClientCode.{FitItems}
+use Rattle.merged_runs.proofs.Relation.{Merging, can_stand, IsEarly, MayName}
 use Rattle.merged_runs.proofs.FrameLemmas.{IsMerged}
 
 module _ (M : Merging) where
@@ -120,9 +121,20 @@ module _ (M : Merging) where
       (ev-Var bytes_eq (steps.look (plain_access P) s w) p.1 ∙ ap (λ o. Ok (local_or o (s.values p.1))) h.0)
       (read_args s w ps us h.1)
 
-  -- every function that a frame may name
+  -- every function that a frame may name, and the client's may run before the swap
   pub record HasFuncs : Type 0 where
     pub callable : (o : Provenance) (now : Version) (f : Bytes) → IsCallable now (function_meaning W o f)
+    pub early : (f : Bytes) → FitItems (MayName W) (map Does (func_in (client_funcs W) f).body)
+
+  -- so what is entered in the client before the swap may run then
+  pub entered_early : HasFuncs → (now : Version) (k : Linked) → IsEarly now (code_of W now k).0 → FitItems (MayName W) (map Does (code_of W now k).1.body)
+  entered_early funcs version.New k e = absurd e
+  entered_early funcs version.Old (home.Both, x) e = absurd e
+  entered_early funcs version.Old (home.Old, x) e = absurd e
+  entered_early funcs version.Old (home.New, x) e = absurd e
+  entered_early funcs version.Old (home.Xform, x) e = absurd e
+  entered_early funcs version.Old (home.Client, x) e = funcs.early x
+  entered_early funcs version.Old (home.Unlinked, x) e = absurd e
 
   part_stands : (has shared : Bool) (f : Bytes) → can_stand version.Old (code_of W version.Old (part version.Old has shared, f)).0 ≡ true
   part_stands true true f = refl
@@ -130,12 +142,13 @@ module _ (M : Merging) where
   part_stands false shared f = refl
 
   -- what a frame that stands calls can stand
-  pub called_stands : (now : Version) (o : Provenance) (f : Bytes) → can_stand now o ≡ true → can_stand now (code_of W now (function_meaning W o f)).0 ≡ true
-  called_stands version.New o f stands = refl
-  called_stands version.Old origin.Old f stands = part_stands (is_some (func_named W.first.funcs f)) (is_shared_code W.first W.second f) f
-  called_stands version.Old origin.New f stands = absurd cc
-  called_stands version.Old origin.Xform f stands = absurd cc
-  called_stands version.Old origin.Client f stands = absurd cc
+  pub called_stands : (now : Version) (o : Provenance) (f : Bytes) → can_stand now o ≡ true → (IsEarly now o → MayName W f)
+      → can_stand now (code_of W now (function_meaning W o f)).0 ≡ true
+  called_stands version.New o f stands early = refl
+  called_stands version.Old origin.Old f stands early = part_stands (is_some (func_named W.first.funcs f)) (is_shared_code W.first W.second f) f
+  called_stands version.Old origin.New f stands early = absurd cc
+  called_stands version.Old origin.Xform f stands early = absurd cc
+  called_stands version.Old origin.Client f stands early = early tt
 
   -- a value that a call through a pointer may meet now
   abbrev pub MayCall : Version → Value Linked → Type 0
@@ -144,10 +157,18 @@ module _ (M : Merging) where
   MayCall now (Code k) = IsCallable now k × (can_stand now (code_of W now k).0 ≡ true)
 
   -- so is each function that a frame that stands names
-  pub named_may : (funcs : HasFuncs) (now : Version) (o : Provenance) (f : Bytes) → can_stand now o ≡ true → MayCall now (Code (function_meaning W o f))
-  named_may funcs now o f stands = (funcs.callable o now f, called_stands now o f stands)
+  pub named_may : (funcs : HasFuncs) (now : Version) (o : Provenance) (f : Bytes) → can_stand now o ≡ true → (IsEarly now o → MayName W f)
+      → MayCall now (Code (function_meaning W o f))
+  named_may funcs now o f stands early = (funcs.callable o now f, called_stands now o f stands early)
+
+  -- what the call of a pick needs
+  abbrev pub IsReadyCall : State → UpdFrame → Stmt-F Stmt → Type 0
+  IsReadyCall g f (one.Call p d x es) = MayCall g.now (Code (function_meaning W f.origin x))
+  IsReadyCall g f l = Unit {0}
 
   -- what the next statement needs
   abbrev pub IsReady : State → UpdFrame → Stmt-F Stmt → Type 0
+  IsReady g f (one.Call p d x es) = MayCall g.now (Code (function_meaning W f.origin x))
   IsReady g f (one.CallBy p d x es) = MayCall g.now ((steps.look (updating_access W) g f).value x)
+  IsReady g f (one.Pick p a b) = IsReadyCall g f (out-Stmt (if is_old g.now then b else a))
   IsReady g f l = Unit {0}

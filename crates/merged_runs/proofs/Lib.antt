@@ -1,6 +1,9 @@
 pub mod MergedStatements
 pub mod EvaluationRenamed
+pub mod ClientCode
 pub mod Relation
+pub mod ClientNames
+pub mod ClientFits
 pub mod MergedNaming
 pub mod StateLemmas
 pub mod FrameLemmas

@@ -13,7 +13,7 @@ use Rattle.version_names.specs.Home.{Home, Linked, same_linked}
 use Rattle.version_names.specs.Home as home
 use Rattle.version_names.specs.Provenance.{Provenance}
 use Rattle.version_names.specs.Provenance as origin
-use Rattle.update_semantics.specs.UpdatingRun.{World, State, UpdFrame, UpdConfig, cell_meaning, function_meaning, swapped_state, step_updating}
+use Rattle.update_semantics.specs.UpdatingRun.{World, State, UpdFrame, UpdConfig, cell_meaning, function_meaning, code_of, swapped_state, step_updating}
 use Rattle.plain_run.proofs.Simulation.{Matches}
 use Rattle.c_lang.specs.declared.unit.Pos.{Pos}
 use Rattle.c_lang.specs.declared.stmt.Kind.TheVariants as kind
@@ -39,14 +39,25 @@ is_there version.Old home.Client = true
 is_there version.Old home.Unlinked = true
 is_there version.New h = true
 
--- Whether a frame of this origin can stand: before the swap only code of the old version runs, as long as no
--- world has a client.
+-- whether a frame of this origin can stand: before the swap only code of the old version and of the client runs
 abbrev pub can_stand : Version → Provenance → Bool
 can_stand version.Old origin.Old = true
 can_stand version.Old origin.New = false
 can_stand version.Old origin.Xform = false
-can_stand version.Old origin.Client = false
+can_stand version.Old origin.Client = true
 can_stand version.New o = true
+
+-- a frame of the client before the swap
+abbrev pub IsEarly : Version → Provenance → Type 0
+IsEarly version.Old origin.Old = ⊥
+IsEarly version.Old origin.New = ⊥
+IsEarly version.Old origin.Xform = ⊥
+IsEarly version.Old origin.Client = Unit {0}
+IsEarly version.New o = ⊥
+
+-- such a frame may name a function whose body can run then
+abbrev pub MayName : World → Bytes → Type 0
+MayName W f = can_stand version.Old (code_of W version.Old (function_meaning W origin.Client f)).0 ≡ true
 
 -- what may stand behind a merged body: nothing, or one return of 0
 abbrev pub IsTail : List Item → Type 0

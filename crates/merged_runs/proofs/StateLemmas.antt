@@ -53,7 +53,7 @@ module _ (M : Merging) where
   cells_there version.Old origin.Old stands x = part_there (is_some (global_named W.first.globals x)) (is_shared_cell W.first W.second x)
   cells_there version.Old origin.New stands x = absurd cc
   cells_there version.Old origin.Xform stands x = absurd cc
-  cells_there version.Old origin.Client stands x = absurd cc
+  cells_there version.Old origin.Client stands x = refl
 
   -- ---- reading
 

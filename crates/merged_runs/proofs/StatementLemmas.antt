@@ -40,7 +40,7 @@ use Rattle.merged_runs.proofs.EvaluationRenamed.{renamed_value, renamed_answer, 
 use Rattle.merged_runs.proofs.Relation.{Merging, can_stand, flag, transform_function, settled_by, SameState, SameFrame, Hands, Below, R, Follows}
 use Rattle.merged_runs.proofs.StateLemmas.{cells_there, settled_there, carries, value_of-renamed, by_answer, same_stored, same_put_elements, by_elements, renamed_answers, and-renamed, by_values}
 use Rattle.merged_runs.proofs.FrameLemmas.{stands_later, tail_hands, below_later, does_map, after_mark-map, by_test, same_if, IsMerged, same_entry, given-renamed, handed_follows, HasTransform}
-use Rattle.merged_runs.proofs.CallLemmas.{Params, IsWrapper, IsDirect, IsCallable, pad, bound-pad, AllAre, all_bound, no_flag-bound, read_args, HasFuncs, MayCall, named_may, IsReady}
+use Rattle.merged_runs.proofs.CallLemmas.{Params, IsWrapper, IsDirect, IsCallable, pad, bound-pad, AllAre, all_bound, no_flag-bound, read_args, HasFuncs, MayCall, IsReadyCall, IsReady}
 
 module _ (M : Merging) where
   open M use {world as W, variable_name as ρ, function_name as κ, value_name as κ', naming as names, program as P}
@@ -365,31 +365,30 @@ module _ (M : Merging) where
     pointer_follows (Code k) h vs d p c is = call_follows vs d k h.0 h.1 c is
 
     -- a call by a function's name
-    called_follows : (t : Stmt) (p : Pos) (d : Dest) (x : Bytes) (es : List Expr) (c : PlainConfig)
+    called_follows : (t : Stmt) (p : Pos) (d : Dest) (x : Bytes) (es : List Expr) → MayCall M g.now (Code (function_meaning W f.origin x)) → (c : PlainConfig)
         → step P c ≡ steps.act NP (dropped P) s q qs t (one.Call p (renamed_dest (ρ f.origin) d) (κ f.origin x) (map (under (ρ f.origin) (κ f.origin)) es))
         → Follows M (steps.with NU (steps.values_of NU g f es) p (λ vs. steps.entered NU g f fs (NU.code f.origin g x) vs d)) c
-    called_follows t p d x es c is = by_values M (steps.values_of NU g f es) _ (all_read es) p (λ vs. steps.entered NU g f fs (NU.code f.origin g x) vs d)
+    called_follows t p d x es may c is = by_values M (steps.values_of NU g f es) _ (all_read es) p (λ vs. steps.entered NU g f fs (NU.code f.origin g x) vs d)
         (λ vs. steps.entered NP s q qs (κ f.origin x) vs (renamed_dest (ρ f.origin) d)) c is (λ vs e'.
-        let may = named_may M funcs g.now f.origin x sf.stands in
         call_follows vs d (function_meaning W f.origin x) may.0 may.1 c
         (e' ∙ ap (λ n. steps.entered NP s q qs n (map value' vs) (renamed_dest (ρ f.origin) d)) (names.codes f.origin x)))
 
     -- the merged program tests the flag before the chosen call
-    chosen_follows : (c : PlainConfig) (st : Stmt) (l : Stmt-F Stmt) → out-Stmt st ≡ l → step P c ≡ Goes [] (steps.before_rest NP s q qs (Does (m st) ∷ []))
+    chosen_follows : (c : PlainConfig) (st : Stmt) (l : Stmt-F Stmt) → out-Stmt st ≡ l → IsReadyCall M g f l → step P c ≡ Goes [] (steps.before_rest NP s q qs (Does (m st) ∷ []))
         → Follows M (picked W g f fs st l) c
-    chosen_follows c st (one.Call p d x es) e is =
+    chosen_follows c st (one.Call p d x es) e may is =
         let c1 : PlainConfig = steps.before_rest NP s q qs (Does (m st) ∷ []) in
         matches_after (step_updating W) (step P) (R M) _ c c1 (silently (step P) c c1 (goes_once (step P) c c1 [] is))
-        (called_follows (m st) p d x es c1
+        (called_follows (m st) p d x es may c1
         (ap (λ l. steps.act NP (dropped P) s q qs (m st) l) (out_merged W.permits ρ κ f.origin st ∙ ap (λ l. merged_layer W.permits ρ κ f.origin (map-Stmt Stmt Stmt m l)) e)))
-    chosen_follows c st l e is =
+    chosen_follows c st l e may is =
         once [] (steps.before_rest NU g f fs (Does st ∷ [])) c (steps.before_rest NP s q qs (Does (m st) ∷ [])) is (same_before (Does st ∷ []) (Does (m st) ∷ []) refl)
 
-    pick_follows : (p : Pos) (a b : Stmt) (now : Version) → g.now ≡ now → (c : PlainConfig) (t : Stmt) → step P c ≡ steps.act NP (dropped P) s q qs t (one.If p (is_set now_name) (m a ∷ []) (m b ∷ []))
+    pick_follows : (p : Pos) (a b : Stmt) (now : Version) → g.now ≡ now → IsReadyCall M g f (out-Stmt (if is_old now then b else a)) → (c : PlainConfig) (t : Stmt) → step P c ≡ steps.act NP (dropped P) s q qs t (one.If p (is_set now_name) (m a ∷ []) (m b ∷ []))
         → Follows M (let st = (if is_old now then b else a) in picked W g f fs st (out-Stmt st)) c
-    pick_follows p a b version.New e c t is = chosen_follows c a (out-Stmt a) refl
+    pick_follows p a b version.New e may c t is = chosen_follows c a (out-Stmt a) refl may
         (if_once s q qs c t p (is_set now_name) (m a ∷ []) (m b ∷ []) (Num (pos 1)) is (flag_of q sf.no_flag ∙ ap (λ n. joined bytes_eq op.Ne (Ok (flag n)) (Ok (Num (pos 0)))) e))
-    pick_follows p a b version.Old e c t is = chosen_follows c b (out-Stmt b) refl
+    pick_follows p a b version.Old e may c t is = chosen_follows c b (out-Stmt b) refl may
         (if_once s q qs c t p (is_set now_name) (m a ∷ []) (m b ∷ []) (Num (pos 0)) is (flag_of q sf.no_flag ∙ ap (λ n. joined bytes_eq op.Ne (Ok (flag n)) (Ok (Num (pos 0)))) e))
 
     left_renamed : (v : Value Linked) → steps.handed NP s q.dest (steps.given NP q.gives (value' v)) qs ≡ steps.handed NP s q.dest (value' (steps.given NU f.gives v)) qs
@@ -403,7 +402,7 @@ module _ (M : Merging) where
         by_elements M (steps.elements_with (NU.elements f.origin g a) (number at) (number v)) p (λ elements. Goes [] (Live (NU.put_elements f.origin a elements g) f fs)) (λ elements. Goes [] (Live (NP.put_elements tt (ρ f.origin a) elements s) q qs)) c
         (e2 ∙ ap (λ r. steps.with_elements NP r p (λ elements. Goes [] (Live (NP.put_elements tt (ρ f.origin a) elements s) q qs))) (same_elements a at v))
         (λ elements e3. once [] (Live (NU.put_elements f.origin a elements g) f fs) c (Live (NP.put_elements tt (ρ f.origin a) elements s) q qs) e3 (same_put_elements M g s f.origin a elements (cells_there M g.now f.origin sf.stands a) ss, sf, sb))))
-    kind_follows t (one.Call p d x es) h c is = called_follows (m t) p d x es c is
+    kind_follows t (one.Call p d x es) h c is = called_follows (m t) p d x es h c is
     kind_follows t (one.CallBy p d x es) h c is = by_values M (steps.values_of NU g f es) _ (all_read es) p (λ vs. steps.by_pointer NU ((steps.look NU g f).value x) g f fs vs d p)
         (λ vs. steps.by_pointer NP ((steps.look NP s q).value (ρ f.origin x)) s q qs vs (renamed_dest (ρ f.origin) d) p) c is (λ vs e'.
         pointer_follows ((steps.look NU g f).value x) h vs d p c
@@ -444,7 +443,7 @@ module _ (M : Merging) where
     kind_follows t (one.Point p k) h c is = point_follows p k (may_update f.origin) (W.permits k) g.now refl c (m t) is
     kind_follows t (one.Choice p d k) h c is = (waits_there (step P) c _ _ is, λ z. (_, takes_once (step P) c _ _ z is, stores d (Num (if is_zero z then pos 0 else pos 1))))
     kind_follows t (one.Force p) h c is = force_follows p g.now refl c (m t) is
-    kind_follows t (one.Pick p a b) h c is = pick_follows p a b g.now refl c (m t) is
+    kind_follows t (one.Pick p a b) h c is = pick_follows p a b g.now refl h c (m t) is
 
   abbrev pub IsReadyFor : State → UpdFrame → List Item → Type 0
   IsReadyFor g f [] = Unit {0}

@@ -1,5 +1,5 @@
 -- The wrappers of a merged program.
-use Rattle.std.proofs.Common.{◌≡◌, ℕ, suc, ◌+◌, ◌<◌, ◌≤◌, ◌^◌, Bool, true, false, ◌&&◌, List, [], ◌∷◌, Option, Some, None, is_some, unwrap_or, refl, sym, ap, ◌∙◌, subst, length, arith, codes}
+use Rattle.std.proofs.Common.{◌≡◌, ℕ, suc, ◌+◌, ◌<◌, ◌≤◌, ◌^◌, Bool, true, false, ◌&&◌, List, [], ◌∷◌, map, Option, Some, None, is_some, unwrap_or, refl, sym, ap, ◌∙◌, subst, length, arith, codes}
 use Rattle.std.specs.Option.{option_map}
 use Rattle.std.specs.Str.{bytes_eq}
 use Rattle.std.specs.Fmt.{decimal}
@@ -21,12 +21,15 @@ use Rattle.version_names.specs.Home.{Home, Linked}
 use Rattle.version_names.specs.Home as home
 use Rattle.version_names.specs.Provenance.{Provenance}
 use Rattle.version_names.specs.Provenance as origin
-use Rattle.update_semantics.specs.UpdatingRun.{World, function_meaning}
+use Rattle.plain_run.specs.Steps.{Does}
+use Rattle.update_semantics.specs.UpdatingRun.{World, client_funcs, function_meaning}
 use Rattle.merged_program.specs.Names.{parameter_name, code_name, variable_name}
 use Rattle.merged_program.specs.Programs.{parameters_from, wrapper, merged_funcs}
 use Rattle.merged_program.proofs.MergedNames.{to_false, same_names}
 use Rattle.merged_program.proofs.Lookups.{name_of_func, func_named-is, named-name}
 use Rattle.merged_runs.proofs.MergedStatements.{wrapper_body, wrapper-built}
+use Rattle.merged_runs.proofs.ClientCode.{FitItems}
+use Rattle.merged_runs.proofs.Relation.{MayName}
 use Rattle.merged_runs.proofs.FrameLemmas.{IsMerged}
 use Rattle.merged_runs.proofs.CallLemmas.{Apart, Distinct, NoFlag, IsWrapper, IsCallable, HasFuncs}
 use Rattle.merged_runs.proofs.Meanings.{IsFoundCode, function-found, not_shared}
@@ -133,5 +136,5 @@ module _ (W : World) where
     callable now (home.Client, x) h = client-merged W x
     callable now (home.Unlinked, x) h = none-named W now x (not_shared W (codes "main") x main h)
 
-    pub functions : HasFuncs (M W)
-    functions = record { callable = λ o now f. callable now (function_meaning W o f) (function-found W o f) }
+    pub functions : ((f : Bytes) → FitItems (MayName W) (map Does (func_in (client_funcs W) f).body)) → HasFuncs (M W)
+    functions early = record { callable = λ o now f. callable now (function_meaning W o f) (function-found W o f); early = early }
