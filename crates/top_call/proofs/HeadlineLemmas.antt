@@ -89,7 +89,7 @@ module _ (around : Around) (update : UpdateFiles) (texts : Texts) (hold : Hold a
 
 module _ (around : Around) (merge : MergeRequest) (ts : Texts) (hold : Hold around merge.files ts) where
   abbrev behind_sizes : Texts → List Condition
-  behind_sizes read = token_conditions read ++ grammar_conditions read ++ type_conditions read ++ update_conditions merge.points read
+  behind_sizes read = token_conditions read ++ (grammar_conditions read ++ (type_conditions read ++ update_conditions merge.points read))
 
   -- the texts that were read, where they are a world
   whole : (read : Texts) → AreHeld around.held merge.files read → AllHold (conditions merge.points read) → read ≡ ts

@@ -17,7 +17,7 @@ use Rattle.top_call.proofs.HeadlineLemmas.{whole-within, within-whole, appended}
 
 module _ (around : Around) (replay : ReplayRequest) (ts : Texts) (hold : Hold around replay.files ts) where
   abbrev behind_sizes : Texts → List Condition
-  behind_sizes read = token_conditions read ++ grammar_conditions read ++ type_conditions read ++ update_conditions replay.points read
+  behind_sizes read = token_conditions read ++ (grammar_conditions read ++ (type_conditions read ++ update_conditions replay.points read))
 
   -- the texts that were read, where they are a world
   whole : (read : Texts) → AreHeld around.held replay.files read → AllHold (conditions replay.points read) → read ≡ ts
