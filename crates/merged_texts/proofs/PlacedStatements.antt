@@ -1,6 +1,6 @@
 -- What typing adds to what is written: declarations are narrow, and in a pick results go to what is declared. What is
 -- written and typed is good.
-use Rattle.std.specs.Prelude.{⊤, ◌≡◌, pos, Bool, true, false, cond, bytes_eq, List, [], ◌∷◌, map, Option, Some, None}
+use Rattle.std.specs.Prelude.{⊤, ◌≡◌, Bool, true, false, cond, bytes_eq, List, [], ◌∷◌, map, Option, Some, None}
 use Rattle.std.proofs.Common.{refl, sym, ap, subst, ◌∙◌, arith}
 use Rattle.std.specs.List.{Contains}
 use Rattle.std.specs.Option.{is_some, option_or}

@@ -16,7 +16,7 @@ use Rattle.version_names.specs.declared.part.Part.{Part}
 use Rattle.version_names.specs.declared.part.Part.TheVariants as part
 use Rattle.version_names.specs.declared.part.Sort2.TheVariants as sort
 use Rattle.client_specs.specs.declared.region.Region.{Region}
-use Rattle.client_specs.specs.declared.region.Region.TheVariants.{Here, Behind, After, Before}
+use Rattle.client_specs.specs.declared.region.Region.TheVariants.{Here, After, Before}
 use Rattle.client_specs.specs.Spelled.{version_at, spelled_by, region_after, spelled, spelled_expression, spelled_statement, spelled_statements, spelled_func}
 use Rattle.merged_program.specs.Expressions.{renamed}
 use Rattle.merge_printer.specs.Heights.{expression_height, arguments_height, optional_height, statement_height, statements_height, funcs_height}
