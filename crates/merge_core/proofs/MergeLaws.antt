@@ -21,7 +21,7 @@ module _ (w : World) (h : IsWorld w) where
   source = plain (merged_program (world_of w))
 
   typed_back : Types Merge source × (resolved_program source ≡ merged_program (world_of w))
-  typed_back = world_typed w.old_prog w.new_prog w.xform (world_of w).permits h.old_unit h.old_kept h.new_unit h.new_kept h.transformer
+  typed_back = world_typed w h
 
   pub kept : IsKept (merged_kept w)
   kept = record { source = source; written = (world_prints w h).written; typed = typed_back.0; resolved = sym typed_back.1 }

@@ -216,3 +216,6 @@ module _ (W : World) where
 
   pub no_xform_cell : (f : Bytes) → global_named (merged_globals W) (code_name (home.Xform, f)) ≡ None
   no_xform_cell f = no_cell_elsewhere home.Xform f (refl, (refl, refl))
+
+  pub no_client_cell : (f : Bytes) → global_named (merged_globals W) (code_name (home.Client, f)) ≡ None
+  no_client_cell f = no_cell_elsewhere home.Client f (refl, (refl, refl))

@@ -15,11 +15,12 @@ use Rattle.c_grammar.specs.Scopes.{Scope, is_declared, declare}
 use Rattle.c_grammar.specs.Units.{all_declared}
 use Rattle.c_types.specs.Bodies.{body_of}
 use Rattle.c_types.specs.Endings.{can_end}
-use Rattle.c_types.specs.Functions.{kinds_of, is_main, body_scope}
+use Rattle.c_types.specs.Functions.{kinds_of, is_main, with_params}
 use Rattle.c_types.specs.Names.{Entries}
 use Rattle.c_types.specs.Plain.{plain_expression, plain_statement, plain_statements, plain_func, built_func, PlainFunc}
+use Rattle.c_types.specs.Scopes as types
 use Rattle.c_types.specs.Statements.{block_in, begun}
-use Rattle.c_types.specs.Types.{AreNarrow, IsTypedFunc}
+use Rattle.c_types.specs.Types.{AreNarrow, IsTypedFrom}
 use Rattle.version_names.specs.Merged.{merged_name}
 use Rattle.version_names.specs.Provenance.{Provenance}
 use Rattle.version_names.specs.Provenance as origin
@@ -44,9 +45,9 @@ use Rattle.written_laws.proofs.StatementFits.{IsFit}
 use Rattle.written_laws.proofs.TypedLocals.{one_of}
 use Rattle.written_laws.proofs.Walks.{both_all}
 use Rattle.merged_texts.proofs.NameFits.{InWord, name_in_word, source_word, parameter_fits, now_fits, result_fits, main_fits, merged_fits, variable_fits, function_fits}
-use Rattle.merged_texts.proofs.SourceStatements.{IsGood, good_plain, IsPlacedWell, placed, is_good, kind_fits}
+use Rattle.merged_texts.proofs.SourceStatements.{IsGood, good_plain}
+use Rattle.merged_texts.proofs.PlacedStatements.{IsPlacedWell, kind_fits, AreTold, params_told, SeeNoCells, params_see, placed, is_good}
 use Rattle.merged_texts.proofs.StatementFits.{tested, small, all_read}
-use Rattle.c_types.proofs.FunctionLaws.{plain_body}
 
 -- ---- functions of sources
 
@@ -61,15 +62,20 @@ params_fit u (q ∷ ps) h k =
     let P = λ (q : Kind × Bytes). IsWord u q.1 in
     ((kind_fits q.0 k.0, source_word u q.1 (All-head P q ps h)), params_fit u ps (All-tail P q ps h) k.1)
 
--- what is written and typed is good
-pub good_source : (u : Unit) (outside : Entries) (xform : Bool) (f : Func) → FuncFits u f → IsTypedFunc outside xform f → IsGoodFunc f
-good_source u outside xform f h typed =
-    let scope = body_scope outside xform f in
+none_told : (names : List Bytes) → AreTold [] names
+none_told names x there = absurd cc
+
+-- what is written and typed is good, where it begins without locals and no name that picks see is a cell
+pub good_source : (u : Unit) (start : types.Scope) (f : Func) → start.locals ≡ [] → SeeNoCells start.picks → FuncFits u f → IsTypedFrom start f → IsGoodFunc f
+good_source u start f empty cells h typed =
+    let scope = with_params start f.params in
     let ss = body_of f.body in
+    let names = (start_of f).declared in
+    let told = params_told f.params start names (λ x there. there) (subst (λ (es : Entries). AreTold es names) (sym empty) (none_told names)) in
     record {
       name = source_word u f.name h.name;
       params = params_fit u f.params h.params typed.narrow;
-      body = both_all (IsFit u) IsPlacedWell IsGood (is_good u) (start_of f) ss h.body (placed (block_in scope) (begun scope ss) (start_of f) ss refl (plain_body outside xform f) typed.body);
+      body = both_all (IsFit u) IsPlacedWell IsGood (is_good u) (start_of f) ss h.body (placed (block_in scope) (begun scope ss) (start_of f) ss refl (params_see f.params start cells) told typed.body);
     }
 
 -- and so is its resolved form

@@ -6,10 +6,14 @@ pub mod MergedHeights
 pub mod MergedPositions
 pub mod Printing
 pub mod TransformerForms
-pub mod WorldParts
 pub mod NameFits
 pub mod SourceStatements
+pub mod PlacedStatements
 pub mod StatementFits
 pub mod FunctionFits
+pub mod SpelledForms
+pub mod ClientForms
+pub mod WorldParts
+pub mod ClientNames
 pub mod GlobalFits
 pub mod Fits

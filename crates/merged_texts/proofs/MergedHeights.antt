@@ -43,7 +43,7 @@ module _ (ρ κ : Bytes → Bytes) where
   same_binds (logical_not e) = refl
   same_binds (binary o a b) = refl
 
-  same_height : (e : Expression) → expression_height (renamed ρ κ e) ≡ expression_height e
+  pub same_height : (e : Expression) → expression_height (renamed ρ κ e) ≡ expression_height e
   same_height (literal z) = refl
   same_height (variable x) = refl
   same_height (element a i) = ap (λ n. n + 1) (same_height i)

@@ -19,10 +19,11 @@ use Rattle.merge_printer.proofs.SideLaw.{ExpressionsFit}
 use Rattle.merge_printer.proofs.Fitting.{DestFits, TargetFits, StatementFits, StatementsFit, GoesAtOnce, declared_by, scope_behind, scope_behind_all, Keeps, KeepsAll}
 use Rattle.merge_printer.proofs.ReadScopes.{declared_before, declared_now}
 use Rattle.merge_printer.proofs.Words.{IsName}
-use Rattle.written_laws.specs.Walk.{Context, with_dest, told, told_all, in_loop, past, past_all, Throughout, ThroughoutAll}
+use Rattle.written_laws.specs.Walk.{Context, with_dest, told, told_all, in_loop, in_pick, past, past_all, Throughout, ThroughoutAll}
 use Rattle.written_laws.proofs.TypedLocals.{one_of}
 use Rattle.merged_texts.proofs.NameFits.{now_fits, choice_fits, merged_fits}
 use Rattle.merged_texts.proofs.SourceStatements.{IsSound, AreSound, ReturnsSound, IsHere, IsGood}
+use Rattle.merged_texts.proofs.PlacedStatements.{still_told}
 
 -- ---- what no source has
 
@@ -160,7 +161,14 @@ module _ (permits : ℕ → Bool) (ρ κ : Provenance → Bytes → Bytes) (o : 
     reads at sc (point p k) h good = point_reads at sc p k good h
     reads at sc (choice p d k) h good = record { fits = (dest_fits d good.0.0, good.1); keeps = at_once at sc d h good.0.1; covers = covers_dest at.declared sc d h }
     reads at sc (force p) h good = record { fits = forcing_fits at.in_loop p; keeps = ((tt, (tt, tt)), tt); covers = h }
-    reads at sc (pick p a b) h good = absurd good.0
+    reads at sc (pick p a b) h good =
+        let first = reads (in_pick at) sc a h good.1 in
+        let second = reads (in_pick at) (scope_behind (read a) sc) b (λ x there. first.covers x (still_told at.declared a x there)) good.2 in
+        record {
+          fits = (tested now_name now_fits, (first.fits, tt), (second.fits, tt));
+          keeps = ((first.keeps, tt), (second.keeps, tt));
+          covers = λ x there. second.covers x (still_told at.declared b x there);
+        }
 
     pub all_read : (at : Context) (sc : Scope) (ss : Statements) → Covers at.declared sc → ThroughoutAll IsGood at ss → AllRead at sc ss
     all_read at sc none h good = record { fits = tt; keeps = tt; covers = h }

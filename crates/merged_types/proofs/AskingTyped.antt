@@ -1,5 +1,5 @@
--- What a point becomes is typed and in resolved form wherever the flag, the transformer and what a point declares
--- have their meaning.
+-- What a point and a force become is typed and in resolved form wherever the flag, the transformer and what a point
+-- declares have their meaning.
 use Rattle.std.proofs.Common.{◌≡◌, ℕ, Bool, false, ◌&&◌, [], length, Option, Some, None, refl, sym, ap, ap₂, ◌∙◌, subst, codes}
 use Rattle.std.specs.Option.{option_or}
 use Rattle.c_lang.specs.Names.{Bytes}
@@ -16,7 +16,7 @@ use Rattle.c_types.specs.Typing.{IsCell, IsFresh}
 use Rattle.version_names.specs.Merged.{merged_name}
 use Rattle.version_names.specs.declared.part.Origin.TheVariants.{Xform}
 use Rattle.merged_program.specs.Names.{now_name, choice_name}
-use Rattle.merged_program.specs.Statements.{is_zero, is_set, swap, question, asking}
+use Rattle.merged_program.specs.Statements.{is_zero, is_set, swap, question, asking, forcing}
 use Rattle.merged_program.proofs.AddedNames.{one, found_added}
 use Rattle.merged_types.proofs.EntryLaws.{absent_from, added_behind}
 use Rattle.merged_types.proofs.Carrying.{some_is}
@@ -55,7 +55,11 @@ swap_resolved b t p h =
       ((tt, subst (λ (m : Means). IsResolvedCall t m Nowhere []) (sym (outside_means t transform (Code [] false None None) h.transform)) (refl, tt, tt)), tt),
     )
 
--- ---- the whole
+pub forcing_resolved : (b : Block) (t : Scope) (p : Pos) → HasUpdate t.outside → IsResolvedStatement b t (forcing p)
+forcing_resolved b t p h =
+    (zero_test (names_of t) now_name (outside_means t now_name (Cell Int) h.now), swap_resolved (block_in t) (entered t (swap p)) p h, tt)
+
+-- ---- what a point becomes
 
 module _ (t : Scope) (h : HasUpdate t.outside) (apart : found t.locals choice_name ≡ None) (told : is_another (found t.told choice_name) Int ≡ false)
     (ahead : found t.ahead choice_name ≡ None) (code : t.xform ≡ false) (p : Pos) (k : ℕ) where

@@ -13,7 +13,7 @@ use Rattle.c_lang.specs.declared.program.Func.{Func}
 use Rattle.c_types.specs.Names.{Means, Cell, Code, Names, Entries, found, added, meant}
 use Rattle.c_types.specs.Scopes.{Scope, names_of, is_another, names_version}
 use Rattle.c_types.specs.Endings.{can_end}
-use Rattle.c_types.specs.Statements.{scope_after, block_in, entered, after_block}
+use Rattle.c_types.specs.Statements.{scope_after, block_in, begun, entered, after_block}
 use Rattle.c_types.specs.Functions.{kinds_of, scope_of, with_params}
 use Rattle.c_types.specs.Typing.{IsFresh}
 use Rattle.c_types.specs.Types.{AreNarrow, AreParams}
@@ -22,12 +22,13 @@ use Rattle.version_names.specs.declared.part.Origin.TheVariants as prefix
 use Rattle.merged_program.specs.Names.{now_name, result_name, parameter_name}
 use Rattle.merged_program.specs.Statements.{hand, wrapping, return_zero}
 use Rattle.merged_program.specs.Programs.{parameters_from, wrapper, starting}
-use Rattle.merged_program.proofs.MergedNames.{bytes_eq-refl}
+use Rattle.merged_program.proofs.MergedNames.{by_bool, bytes_eq-refl}
 use Rattle.merged_program.proofs.AddedNames.{one, found_added}
 use Rattle.merged_types.proofs.EntryLaws.{absent_from, added_behind}
 use Rattle.merged_types.proofs.ResolvedTyping.{IsVariable, IsResolvedCall, IsResolvedReturn, AreResolvedArguments, AreResolved}
 use Rattle.merged_types.proofs.AskingTyped.{outside_means, set_test}
 use Rattle.merged_types.proofs.ResolvedFuncs.{IsResolvedFunc}
+use Rattle.merged_types.proofs.MergedFuncs.{joined, zero_at, zero_behind}
 use Rattle.merged_types.proofs.UpdateNames.{parameters_apart}
 use Rattle.merged_types.proofs.VersionNames.{kinds_from}
 
@@ -176,7 +177,7 @@ module _ (outside : Entries) (gives : Bool) (free : (n : ℕ) → n < 2 ^ 64 →
           gives = λ g m. wrapping_ends d.pos (merged_name prefix.New d.name) (merged_name prefix.Old d.name) (parameters_from 1 ks) g;
           body = subst (λ (s : Scope).
               let whole = more (wrapping d.pos gives (merged_name prefix.New d.name) (merged_name prefix.Old d.name) (parameters_from 1 ks)) none in
-              AreResolved (block_in s) (entered s whole) whole)
+              AreResolved (block_in s) (begun s whole) whole)
               (sym (scope_with [] (parameters_from 1 ks)))
               (wrapper_body d.pos ks (merged_name prefix.New d.name) (merged_name prefix.Old d.name) v w few new_is old_is);
         }
@@ -184,8 +185,8 @@ module _ (outside : Entries) (gives : Bool) (free : (n : ℕ) → n < 2 ^ 64 →
 -- ---- the function with which a run begins
 
 module _ (outside : Entries) (result : found outside result_name ≡ None) where
-  pub starting_resolved : (name : Bytes) (f : Func) (v : Option ℕ) → f.gives ≡ true → found outside name ≡ Some (Code [] true v None) → IsResolvedFunc outside false (starting name f)
-  starting_resolved name f v gives is =
+  starting_value : (name : Bytes) (f : Func) (v : Option ℕ) → f.gives ≡ true → found outside name ≡ Some (Code [] true v None) → IsResolvedFunc outside false (starting name f)
+  starting_value name f v gives is =
       let s = scope_of outside false true in
       record {
         params = tt;
@@ -196,6 +197,26 @@ module _ (outside : Entries) (result : found outside result_name ≡ None) where
         gives = λ g m. absurd cc;
         body = handed s result refl refl refl refl f.pos name [] v [] (λ u out loc. tt) true is refl;
       }
+
+  starting_nothing : (name : Bytes) (f : Func) (v : Option ℕ) → f.gives ≡ false → found outside name ≡ Some (Code [] false v None) → IsResolvedFunc outside false (starting name f)
+  starting_nothing name f v gives is =
+      let s = scope_of outside false true in
+      let called = hand f.pos false name [] in
+      record {
+        params = tt;
+        few = omega arith;
+        narrow = tt;
+        tree = joined called (zero_at f.pos);
+        built = ap (λ (g : Bool). stmts_of (hand f.pos g name []) ++ (if g then [] else stmt_of (return_zero f.pos) ∷ [])) gives;
+        gives = λ g m. absurd cc;
+        body = zero_behind (block_in s) (entered s called) called f.pos refl
+            (handed_nothing s result refl refl refl refl f.pos name [] v [] (λ u out loc. tt) is);
+      }
+
+  pub starting_resolved : (name : Bytes) (f : Func) (v : Option ℕ) → found outside name ≡ Some (Code [] f.gives v None) → IsResolvedFunc outside false (starting name f)
+  starting_resolved name f v is = by_bool f.gives
+      (λ e. starting_value name f v e (is ∙ ap (λ (g : Bool). Some (Code [] g v None)) e))
+      (λ e. starting_nothing name f v e (is ∙ ap (λ (g : Bool). Some (Code [] g v None)) e))
 
 -- with what the merged program has
 pub wrapper_typed : (outside : Entries) → ((n : ℕ) → n < 2 ^ 64 → found outside (parameter_name n) ≡ None) → found outside now_name ≡ Some (Cell Int) → found outside result_name ≡ None

@@ -1,5 +1,5 @@
 -- What names stand for under other names: ρ for variables, κ for functions.
-use Rattle.std.proofs.Common.{◌≡◌, ℕ, zero, suc, ℤ, pos, negsuc, List, [], ◌∷◌, Option, Some, None, refl, sym, ap, ap₂, ◌∙◌, subst}
+use Rattle.std.proofs.Common.{◌≡◌, ℕ, zero, suc, ℤ, pos, negsuc, List, [], ◌∷◌, map, Option, Some, None, refl, sym, ap, ap₂, ◌∙◌, subst}
 use Rattle.std.specs.Prelude.{⊤}
 use Rattle.std.specs.Option.{option_or}
 use Rattle.c_lang.specs.Names.{Bytes}
@@ -9,6 +9,9 @@ use Rattle.c_lang.specs.declared.stmt.Kind.TheVariants.{Int}
 use Rattle.c_types.specs.Names.{Means, Cell, Array, Code, Refused, Names, meant}
 use Rattle.c_types.specs.Expressions.{kind_of, kind_of_name, place_of, kind_of_element}
 use Rattle.c_types.specs.Typing.{IsFunction, IsArray, IsCell}
+use Rattle.version_names.specs.Parts.{Parts}
+use Rattle.client_specs.specs.declared.region.Region.{Region}
+use Rattle.client_specs.specs.Spelled.{spelled, spelled_expression}
 use Rattle.merged_program.specs.Expressions.{renamed, all_renamed}
 use Rattle.merged_types.proofs.ResolvedTyping.{IsVariable, IsResolved, AreResolvedArguments}
 use Rattle.merged_types.proofs.ResolvedSources.{place_by}
@@ -120,14 +123,25 @@ module _ (ρ κ : Bytes → Bytes) where
     value = λ k f h. value_meant k (s f) (t (κ f)) (codes f) h;
   }
 
-  module _ (names names' : Names) (c : AreCarried names names') where
+-- of code in which a function's name means what it does in its region
+module _ (ρ κ : Bytes → Bytes) (parts : Parts) (region : Region) where
+  abbrev pub in_region : Bytes → Bytes
+  in_region f = κ (spelled parts region f)
+
+  abbrev pub expression_here : Expression → Expression
+  expression_here e = renamed ρ κ (spelled_expression parts region e)
+
+  abbrev pub expressions_here : List Expression → List Expression
+  expressions_here es = all_renamed ρ κ (map (spelled_expression parts region) es)
+
+  module _ (names names' : Names) (c : AreCarried ρ in_region names names') where
     variable_cell : (k : Kind) (m : Means) → IsVariable k m → IsCell m
     variable_cell k (Cell j) h = tt
     variable_cell k Array h = absurd h
     variable_cell k (Code params gives value denied) h = absurd h
     variable_cell k (Refused n) h = absurd h
 
-    pub kind_carried : (k : Kind) (e : Expression) → IsResolved names k e → kind_of names' (renamed ρ κ e) ≡ kind_of names e
+    pub kind_carried : (k : Kind) (e : Expression) → IsResolved names k e → kind_of names' (expression_here e) ≡ kind_of names e
     kind_carried k (literal z) h = kind_literal names names' z
     kind_carried k (variable x) h = ap kind_of_name (c.cell x (variable_cell k (names x) h))
     kind_carried k (element a i) h = ap kind_of_element (c.array a h.1)
@@ -137,7 +151,7 @@ module _ (ρ κ : Bytes → Bytes) where
     kind_carried k (logical_not a) h = refl
     kind_carried k (binary o a b) h = refl
 
-    pub expression_carried : (k : Kind) (e : Expression) → IsResolved names k e → IsResolved names' k (renamed ρ κ e)
+    pub expression_carried : (k : Kind) (e : Expression) → IsResolved names k e → IsResolved names' k (expression_here e)
     expression_carried k (literal z) h = h
     expression_carried k (variable x) h = subst (IsVariable k) (sym (c.cell x (variable_cell k (names x) h))) h
     expression_carried k (element a i) h = (h.0, subst IsArray (sym (c.array a h.1)) h.1, expression_carried Int i h.2)
@@ -147,13 +161,13 @@ module _ (ρ κ : Bytes → Bytes) where
     expression_carried k (logical_not a) h = (h.0, expression_carried Int a h.1)
     expression_carried k (binary o a b) h =
         let j = place_of names o a b in
-        let same : j ≡ place_of names' o (renamed ρ κ a) (renamed ρ κ b) = ap₂ (place_by o) (sym (kind_carried j a h.1)) (sym (kind_carried j b h.2)) in (
+        let same : j ≡ place_of names' o (expression_here a) (expression_here b) = ap₂ (place_by o) (sym (kind_carried j a h.1)) (sym (kind_carried j b h.2)) in (
           h.0,
-          subst (λ (l : Kind). IsResolved names' l (renamed ρ κ a)) same (expression_carried j a h.1),
-          subst (λ (l : Kind). IsResolved names' l (renamed ρ κ b)) same (expression_carried j b h.2),
+          subst (λ (l : Kind). IsResolved names' l (expression_here a)) same (expression_carried j a h.1),
+          subst (λ (l : Kind). IsResolved names' l (expression_here b)) same (expression_carried j b h.2),
         )
 
-    pub arguments_carried : (ks : List Kind) (es : List Expression) → AreResolvedArguments names ks es → AreResolvedArguments names' ks (all_renamed ρ κ es)
+    pub arguments_carried : (ks : List Kind) (es : List Expression) → AreResolvedArguments names ks es → AreResolvedArguments names' ks (expressions_here es)
     arguments_carried [] [] h = tt
     arguments_carried [] (e ∷ es) h = absurd h
     arguments_carried (k ∷ ks) [] h = absurd h

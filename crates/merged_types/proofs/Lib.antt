@@ -7,9 +7,12 @@ mod EntryLaws
 mod Carrying
 mod CarriedScopes
 mod AskingTyped
+mod CarriedCalls
 mod CarriedStatements
 mod SameFlow
+mod Unspelled
 mod ResolvedFuncs
+mod MergedFuncs
 pub mod PlainPrograms
 mod MergedNaming
 mod UnitNames
@@ -23,4 +26,9 @@ mod SourcePrograms
 mod LinkedNames
 mod VisibleNames
 mod TransformerNames
+mod PlainWords
+mod ClientFuncs
+mod ClientEntries
+mod ClientNames
+mod QuietPicks
 pub mod WorldTyped

@@ -1,5 +1,7 @@
 -- A merged program is typed in its plain form, and the resolved form of it.
 use Rattle.std.proofs.Common.{◌≡◌, ◌≤◌, ℕ, Bool, true, false, List, [], ◌∷◌, map, length, Option, Some, None, is_some, unwrap_or, refl, sym, ap, ap₂, ◌∙◌, codes, subst}
+use Rattle.std.specs.Prelude.{⊤}
+use Rattle.std.specs.Option.{option_map}
 use Rattle.std.specs.List.{filter}
 use Rattle.std.specs.Str.{bytes_eq}
 use Rattle.c_lang.specs.Limits.{parameter_limit}
@@ -11,7 +13,8 @@ use Rattle.c_lang.specs.declared.stmt.Kind.{Kind}
 use Rattle.c_lang.specs.declared.program.Func.{Func}
 use Rattle.c_lang.specs.declared.program.Program.{Program}
 use Rattle.c_types.specs.Names.{Code, Entries, found}
-use Rattle.c_types.specs.Functions.{kinds_of, arity_as_value, means_of_func, is_main}
+use Rattle.c_types.specs.Scopes.{Scope}
+use Rattle.c_types.specs.Functions.{kinds_of, scope_of, arity_as_value, means_of_func, is_main}
 use Rattle.c_types.specs.Programs.{with_globals, with_funcs, has_main}
 use Rattle.c_types.specs.Types.{AreNarrow, Types}
 use Rattle.c_types.specs.Programs.{resolved_program}
@@ -19,20 +22,26 @@ use Rattle.c_types.specs.Plain.{plain}
 use Rattle.c_types.proofs.Combined.{both_true}
 use Rattle.version_names.specs.Links.{both_alike, same_head}
 use Rattle.version_names.specs.Merged.{merged_name}
+use Rattle.version_names.specs.Home as home
+use Rattle.version_names.specs.Parts.{part_of}
 use Rattle.version_names.specs.Provenance as origin
 use Rattle.version_names.specs.declared.part.Origin.TheVariants as prefix
-use Rattle.update_semantics.specs.UpdatingRun.{World}
+use Rattle.client_specs.specs.Kept.{ClientProgram}
+use Rattle.client_specs.specs.Spelled.{spelled_func}
+use Rattle.client_specs.specs.declared.region.Region.TheVariants.{Here}
+use Rattle.update_semantics.specs.UpdatingRun.{World, funcs_of_client, client_funcs}
 use Rattle.state_xform.specs.Transformers.{is_start}
-use Rattle.merged_program.specs.Names.{variable_name, function_name}
-use Rattle.merged_program.specs.Programs.{wrapper, starting, merged_globals, merged_main, old_func, new_func, xform_func, is_wrapped, merged_funcs, merged_program}
-use Rattle.merged_program.proofs.Lookups.{no_func_named}
-use Rattle.merged_program.proofs.MergedTables.{no_old_cell, no_new_cell, no_wrapper_cell, no_xform_cell}
+use Rattle.merged_program.specs.Names.{code_name, variable_name, function_name}
+use Rattle.merged_program.specs.Programs.{wrapper, starting, merged_globals, merged_main, old_func, new_func, xform_func, client_func, is_wrapped, merged_funcs, merged_program}
+use Rattle.merged_program.proofs.Lookups.{or_none, no_func_named}
+use Rattle.merged_program.proofs.MergedTables.{no_old_cell, no_new_cell, no_wrapper_cell, no_xform_cell, no_client_cell}
 use Rattle.merged_program.proofs.MainLaws.{AreNew, StartsIt, main_starts}
 use Rattle.merged_types.proofs.MergedNaming.{merged_naming}
-use Rattle.merged_types.proofs.CarriedScopes.{IsOutside, HasUpdate}
-use Rattle.merged_types.proofs.ResolvedFuncs.{IsResolvedFunc, version_merged, merged_alone}
+use Rattle.merged_types.proofs.CarriedScopes.{IsOutside, HasUpdate, IsCarried}
+use Rattle.merged_types.proofs.ResolvedFuncs.{IsResolvedFrom, IsResolvedFunc}
+use Rattle.merged_types.proofs.MergedFuncs.{R, version_merged, xform_merged, client_merged}
 use Rattle.merged_types.proofs.PlainPrograms.{Each, IsResolvedProgram, typed_plain, resolved_back}
-use Rattle.merged_types.proofs.VersionNames.{first_outside, second_outside, merged_outside, old_names, new_names, old_code, new_code, kinds_sound, result_sound, nowhere_cell}
+use Rattle.merged_types.proofs.VersionNames.{first_outside, second_outside, merged_outside, old_names, new_names, old_code, new_code, code_found, same_means, kinds_merged, kinds_sound, result_sound, nowhere_cell}
 use Rattle.merged_types.proofs.UpdateNames.{has_update, parameter_free, result_free}
 use Rattle.merged_types.proofs.CallsTyped.{starting_resolved, wrapper_typed}
 use Rattle.merged_types.proofs.MergedGlobals.{globals_merged, cells_merged, new_globals_merged}
@@ -47,11 +56,40 @@ pub record IsResolvedTransformer (W : World) : Type 0 where
   pub funcs : Each (λ (f : Func). IsResolvedFunc outside true f × (is_main f.name ≡ false)) W.xform.funcs
   pub start : is_start (func_named W.xform.funcs (codes "dsu_transform")) ≡ true
 
-module _ (first second xform : Program) (permits : ℕ → Bool) where
-  abbrev pub W : World
-  W = record { first = first; second = second; xform = xform; client = None; permits = permits }
+-- a client's function: the spelled form of one that is typed and in resolved form from where it begins
+pub record IsClientFunc (W : World) (f : Func) : Type 0 where
+  pub own : Func
+  pub spelled : f ≡ spelled_func (part_of W.first W.second) own
+  pub begins : Scope
+  pub resolved : IsResolvedFrom begins own
+  pub carried : IsCarried (R W.permits (variable_name W) (function_name W) origin.Client (merged_naming W origin.Client) (part_of W.first W.second)) Here begins
+      (scope_of (merged_outside W) false own.gives)
+  pub no_main : is_main own.name ≡ false
 
-  module _ (h : IsResolvedProgram unit.Old first) (k : IsResolvedProgram unit.New second) (x : IsResolvedTransformer W) where
+pub record IsResolvedClient (W : World) (c : ClientProgram) : Type 0 where
+  pub new : AreNew [] c.program.funcs
+  pub funcs : Each (IsClientFunc W) c.program.funcs
+  -- a run begins with a function without parameters
+  pub entry : Func
+  pub named : func_named c.program.funcs c.spec ≡ Some entry
+  pub empty : entry.params ≡ []
+
+-- there is no client, or it is such a one
+abbrev pub IsOptionalClient : World → Option ClientProgram → Type 0
+IsOptionalClient W None = ⊤
+IsOptionalClient W (Some c) = IsResolvedClient W c
+
+module _ (W : World) where
+  abbrev first : Program
+  first = W.first
+
+  abbrev second : Program
+  second = W.second
+
+  abbrev xform : Program
+  xform = W.xform
+
+  module _ (h : IsResolvedProgram unit.Old W.first) (k : IsResolvedProgram unit.New W.second) (x : IsResolvedTransformer W) (y : IsOptionalClient W W.client) where
     abbrev main : Bytes
     main = codes "main"
 
@@ -78,14 +116,14 @@ module _ (first second xform : Program) (permits : ℕ → Bool) where
     old_funcs : Each IsHere (map (old_func W) first.funcs)
     old_funcs =
         each_map (IsVersionFunc (first_outside W)) IsHere (old_func W)
-        (λ f q. version_merged permits (variable_name W) (function_name W) origin.Old (merged_naming W origin.Old) (first_outside W) outside false first_names update f q.0
+        (λ f q. version_merged W.permits (variable_name W) (function_name W) origin.Old (merged_naming W origin.Old) (first_outside W) outside false first_names update f q.0
         (merged_name prefix.Old f.name) (λ m. (starts f q.1 m).0)) first.funcs
         (each_both (IsResolvedFunc (first_outside W) false) IsStartIfMain first.funcs h.funcs (each_starts (with_globals [] first.globals) first.funcs h.new_funcs h.main))
 
     new_funcs : Each IsHere (map (new_func W) second.funcs)
     new_funcs =
         each_map (IsVersionFunc (second_outside W)) IsHere (new_func W)
-        (λ f q. version_merged permits (variable_name W) (function_name W) origin.New (merged_naming W origin.New) (second_outside W) outside false second_names update f q.0
+        (λ f q. version_merged W.permits (variable_name W) (function_name W) origin.New (merged_naming W origin.New) (second_outside W) outside false second_names update f q.0
         (merged_name prefix.New f.name) (λ m. (starts f q.1 m).0)) second.funcs
         (each_both (IsResolvedFunc (second_outside W) false) IsStartIfMain second.funcs k.funcs (each_starts (with_globals [] second.globals) second.funcs k.new_funcs k.main))
 
@@ -118,30 +156,53 @@ module _ (first second xform : Program) (permits : ℕ → Bool) where
     xform_funcs : Each IsHere (map (xform_func W) xform.funcs)
     xform_funcs =
         each_map (λ (f : Func). IsResolvedFunc x.outside true f × (is_main f.name ≡ false)) IsHere (xform_func W)
-        (λ f q. merged_alone permits (variable_name W) (function_name W) origin.Xform (merged_naming W origin.Xform) x.outside outside true x.names update f q.0
-        (merged_name prefix.Xform f.name) (λ g. q.0.gives g q.1)) xform.funcs x.funcs
+        (λ f q. xform_merged W.permits (variable_name W) (function_name W) origin.Xform (merged_naming W origin.Xform) x.outside outside true x.names update f q.0
+        (merged_name prefix.Xform f.name) q.1) xform.funcs x.funcs
 
-    main_by : (o : Option Func) → func_named first.funcs main ≡ o → is_some o ≡ true → IsHere (starting (merged_name prefix.Old main) (unwrap_or o no_func))
-    main_by None e s = absurd cc
-    main_by (Some f) e s =
-        let start = main_is f e in
+    client_here : (f : Func) → IsClientFunc W f → IsHere (client_func W f)
+    client_here f q =
+        subst (λ (g : Func). IsHere (client_func W g)) (sym q.spelled)
+        (client_merged W.permits (variable_name W) (function_name W) origin.Client (merged_naming W origin.Client) (part_of W.first W.second) q.begins outside q.own
+        q.carried update q.resolved (merged_name prefix.Client q.own.name) q.no_main)
+
+    client_funcs_by : (c : Option ClientProgram) → IsOptionalClient W c → Each IsHere (map (client_func W) (funcs_of_client c))
+    client_funcs_by None y = tt
+    client_funcs_by (Some c) y = each_map (IsClientFunc W) IsHere (client_func W) client_here c.program.funcs y.funcs
+
+    -- the function with which a run begins
+    entry_code : (c : ClientProgram) (f : Func) → W.client ≡ Some c → func_named c.program.funcs c.spec ≡ Some f → found outside (code_name (home.Client, c.spec)) ≡ Some (means_of_func f)
+    entry_code c f is named =
+        code_found W (home.Client, c.spec) (client_func W f) (means_of_func f) (no_client_cell W c.spec)
+        (or_none (option_map (client_func W) (func_named (client_funcs W) c.spec))
+        ∙ ap (λ (o : Option ClientProgram). option_map (client_func W) (func_named (funcs_of_client o) c.spec)) is ∙ ap (option_map (client_func W)) named)
+        (same_means (client_func W f) f (kinds_merged W origin.Client f.params) refl)
+
+    -- a function without parameters by its name and what it stands for
+    begins_with : (name : Bytes) (f : Func) → f.params ≡ [] → found outside name ≡ Some (means_of_func f) → IsHere (starting name f)
+    begins_with name f empty is =
+        starting_resolved outside (result_free W) name f (arity_as_value [] f.gives)
+        (is ∙ ap (λ (ps : List (Kind × Bytes)). Some (Code (kinds_of ps) f.gives (arity_as_value (kinds_of ps) f.gives) None)) empty)
+
+    old_by : (o : Option Func) → func_named first.funcs main ≡ o → is_some o ≡ true → IsHere (starting (merged_name prefix.Old main) (unwrap_or o no_func))
+    old_by None e s = absurd cc
+    old_by (Some f) e s =
+        let start = subst StartsIt e (main_starts (with_globals [] first.globals) first.funcs h.new_funcs h.main) in
         let unseen = seen_before (with_globals [] first.globals) first.funcs h.new_funcs main (ap is_some e) in
-        starting_resolved outside (result_free W) (merged_name prefix.Old main) f (arity_as_value [] true) start.0
-        (old_code W main f (no_global first.globals main unseen) e
-        ∙ ap₂ (λ (ps : List (Kind × Bytes)) (g : Bool). Some (Code (kinds_of ps) g (arity_as_value (kinds_of ps) g) None)) start.1 start.0)
-      where
-        main_is : (f : Func) → func_named first.funcs main ≡ Some f → (f.gives ≡ true) × (f.params ≡ [])
-        main_is f e = subst StartsIt e (main_starts (with_globals [] first.globals) first.funcs h.new_funcs h.main)
+        begins_with (merged_name prefix.Old main) f start.1 (old_code W main f (no_global first.globals main unseen) e)
 
-    main_here : IsHere (merged_main W None)
-    main_here = main_by (func_named first.funcs main) refl (main_named first.funcs h.main)
+    main_by : (c : Option ClientProgram) → W.client ≡ c → IsOptionalClient W c → IsHere (merged_main W c)
+    main_by None is y = old_by (func_named first.funcs main) refl (main_named first.funcs h.main)
+    main_by (Some c) is y =
+        subst (λ (o : Option Func). IsHere (starting (merged_name prefix.Client c.spec) (unwrap_or o no_func))) (sym y.named)
+        (begins_with (merged_name prefix.Client c.spec) y.entry y.empty (entry_code c y.entry is y.named))
 
     funcs_here : Each IsHere (merged_funcs W)
     funcs_here =
         each_append IsHere (map (old_func W) first.funcs) _ old_funcs
         (each_append IsHere (map (new_func W) second.funcs) _ new_funcs
         (each_append IsHere (map wrapper (filter (is_wrapped W) first.funcs)) _ wrappers
-        (each_append IsHere (map (xform_func W) xform.funcs) _ xform_funcs (main_here, tt))))
+        (each_append IsHere (map (xform_func W) xform.funcs) _ xform_funcs
+        (each_append IsHere (map (client_func W) (client_funcs W)) _ (client_funcs_by W.client y) (main_by W.client refl y, tt)))))
 
     -- ---- names
 
@@ -160,6 +221,9 @@ module _ (first second xform : Program) (permits : ℕ → Bool) where
     abbrev with_xform : Entries
     with_xform = with_funcs with_wrappers (map (xform_func W) xform.funcs)
 
+    abbrev with_clients : Entries
+    with_clients = with_funcs with_xform (map (client_func W) (client_funcs W))
+
     old_none : (n : Bytes) → global_named (merged_globals W) n ≡ None → ((f : Bytes) → bytes_eq (merged_name prefix.Old f) n ≡ false) → found with_old n ≡ None
     old_none n e a = funcs_none cells (map (old_func W) first.funcs) n (globals_none [] (merged_globals W) n refl e) (no_func_named (old_func W) first.funcs n (λ f. a f.name))
 
@@ -172,6 +236,21 @@ module _ (first second xform : Program) (permits : ℕ → Bool) where
 
     xform_none : (n : Bytes) → found with_wrappers n ≡ None → ((f : Bytes) → bytes_eq (merged_name prefix.Xform f) n ≡ false) → found with_xform n ≡ None
     xform_none n e a = funcs_none with_wrappers (map (xform_func W) xform.funcs) n e (no_func_named (xform_func W) xform.funcs n (λ f. a f.name))
+
+    client_none : (n : Bytes) → found with_xform n ≡ None → ((f : Bytes) → bytes_eq (merged_name prefix.Client f) n ≡ false) → found with_clients n ≡ None
+    client_none n e a = funcs_none with_xform (map (client_func W) (client_funcs W)) n e (no_func_named (client_func W) (client_funcs W) n (λ f. a f.name))
+
+    new_clients : (c : Option ClientProgram) → IsOptionalClient W c → AreNew [] (funcs_of_client c)
+    new_clients None y = tt
+    new_clients (Some c) y = y.new
+
+    free_main : found with_clients main ≡ None
+    free_main =
+        client_none main (xform_none main (wrappers_none main (new_none main (old_none main (nowhere_cell W main) (λ f. refl)) (λ f. refl)) (λ f. refl)) (λ f. refl)) (λ f. refl)
+
+    new_main : (c : Option ClientProgram) → found with_clients (merged_main W c).name ≡ None
+    new_main None = free_main
+    new_main (Some c) = free_main
 
     new_here : AreNew cells (merged_funcs W)
     new_here =
@@ -188,14 +267,23 @@ module _ (first second xform : Program) (permits : ℕ → Bool) where
         (new_made (merged_name prefix.Xform) (λ y z. refl) (xform_func W) (λ f. refl) [] with_wrappers
         (λ y e. wrappers_none (merged_name prefix.Xform y)
         (new_none (merged_name prefix.Xform y) (old_none (merged_name prefix.Xform y) (no_xform_cell W y) (λ f. refl)) (λ f. refl)) (λ f. refl)) xform.funcs x.new)
-        (xform_none main (wrappers_none main (new_none main (old_none main (nowhere_cell W main) (λ f. refl)) (λ f. refl)) (λ f. refl)) (λ f. refl), tt))))
+        (new_append with_xform (map (client_func W) (client_funcs W)) _
+        (new_made (merged_name prefix.Client) (λ y z. refl) (client_func W) (λ f. refl) [] with_xform
+        (λ y e. xform_none (merged_name prefix.Client y) (wrappers_none (merged_name prefix.Client y)
+        (new_none (merged_name prefix.Client y) (old_none (merged_name prefix.Client y) (no_client_cell W y) (λ f. refl)) (λ f. refl)) (λ f. refl)) (λ f. refl))
+        (client_funcs W) (new_clients W.client y))
+        (new_main W.client, tt)))))
 
     -- ---- the whole
 
     started : has_main (merged_funcs W) ≡ true
     started =
         main_behind (map (old_func W) first.funcs) _ (main_behind (map (new_func W) second.funcs) _ (main_behind (map wrapper (filter (is_wrapped W) first.funcs)) _
-        (main_behind (map (xform_func W) xform.funcs) (merged_main W None ∷ []) refl)))
+        (main_behind (map (xform_func W) xform.funcs) _ (main_behind (map (client_func W) (client_funcs W)) (merged_main W W.client ∷ []) (alone W.client)))))
+      where
+        alone : (c : Option ClientProgram) → has_main (merged_main W c ∷ []) ≡ true
+        alone None = refl
+        alone (Some c) = refl
 
     pub merged_resolved : IsResolvedProgram unit.Merge (merged_program W)
     merged_resolved = record {

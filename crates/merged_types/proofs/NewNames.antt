@@ -45,7 +45,7 @@ pub each_map : {X Y : Type 0} (P : X → Type 0) (Q : Y → Type 0) (make : X �
 each_map P Q make f [] h = tt
 each_map P Q make f (x ∷ xs) h = (f x h.0, each_map P Q make f xs h.1)
 
-each_from : {X : Type 0} (P Q : X → Type 0) → ((x : X) → P x → Q x) → (xs : List X) → Each P xs → Each Q xs
+pub each_from : {X : Type 0} (P Q : X → Type 0) → ((x : X) → P x → Q x) → (xs : List X) → Each P xs → Each Q xs
 each_from P Q f [] h = tt
 each_from P Q f (x ∷ xs) h = (f x h.0, each_from P Q f xs h.1)
 

@@ -7,16 +7,16 @@ use Rattle.c_lang.specs.declared.unit.Pos.{Pos}
 use Rattle.c_lang.specs.declared.stmt.Dest.{Dest}
 use Rattle.c_lang.specs.declared.stmt.Kind.{Kind}
 use Rattle.c_lang.specs.declared.stmt.Kind.TheVariants.{Int, Fp}
-use Rattle.c_types.specs.Names.{Means, Cell, Array, Code, Refused, Names}
-use Rattle.c_types.specs.Scopes.{Scope, Block, names_of, kind_of_dest}
+use Rattle.c_types.specs.Names.{Means, Cell, Array, Code, Refused, Names, Entries}
+use Rattle.c_types.specs.Scopes.{Picks, Scope, Block, in_pick, names_of, kind_of_dest}
 use Rattle.c_types.specs.Expressions.{kind_of, kind_of_name, or_int, own_kind, place_of}
-use Rattle.c_types.specs.Calls.{place_in, element_kind, ints}
+use Rattle.c_types.specs.Calls.{place_in, element_kind, ints, places_of, picked}
 use Rattle.c_types.specs.Statements.{scope_after, block_in, entered, after_block}
-use Rattle.c_types.specs.Typing.{IsValue, IsFunction, IsLiteral, IsPointer, IsTyped, AreArguments, IsCall, IsReturn, IsTypedStatement, AreTyped}
+use Rattle.c_types.specs.Typing.{IsValue, IsFunction, IsLiteral, IsPointer, IsTyped, AreArguments, IsCall, IsReturn, IsPicked, IsPick, IsTypedStatement, AreTyped}
 use Rattle.c_types.specs.Plain.{plain_expression, plain_statement, plain_statements}
 use Rattle.c_types.proofs.StatementsTyped.{array_kind}
-use Rattle.merged_types.proofs.Resolution.{name_tree, literal_tree, tree, trees, call_tree, statement_tree, list_tree}
-use Rattle.merged_types.proofs.ResolvedTyping.{IsInt, IsVariable, IsResolved, AreResolvedArguments, IsResolvedCall, IsResolvedCallBy, IsResolvedReturn, IsResolvedStatement, AreResolved}
+use Rattle.merged_types.proofs.Resolution.{name_tree, literal_tree, tree, trees, call_tree, picked_tree, pick_tree, statement_tree, list_tree}
+use Rattle.merged_types.proofs.ResolvedTyping.{IsInt, IsVariable, IsResolved, AreResolvedArguments, IsResolvedCall, IsResolvedCallBy, IsResolvedReturn, IsResolvedPicked, IsResolvedPick, IsResolvedStatement, AreResolved}
 use Rattle.merged_types.proofs.ResolvedSources.{place_by, function_int}
 use Rattle.merged_types.proofs.SameScopes.{DeclaresSame, DeclareSame, declare_nothing, declare_more, declares_if, declares_while, same_after, same_entered, same_after_block}
 use Rattle.c_types.proofs.PlainLaws.{element_int}
@@ -178,6 +178,33 @@ return_plain names false p None h = (tt, refl)
 return_plain names true p (Some e) h = let q = plain_of names Int e h in (q.typed, ap Some q.tree)
 return_plain names false p (Some e) h = absurd h
 
+-- ---- picks
+
+by_picked : (s : Scope) (m : Means) (d : Dest) (es : List Expression) → IsResolvedCall s (picked m) d es
+    → IsCall s (picked m) d (map plain_expression es) × (trees (names_of s) (places_of m) (map plain_expression es) ≡ es)
+by_picked s (Code params gives value None) d es h = let q = plain_arguments (names_of s) params es h.2 in ((h.0, h.1, q.0), q.1)
+by_picked s (Code params gives value (Some n)) d es h = absurd h
+by_picked s (Cell Int) d es h = absurd h
+by_picked s (Cell (Fp n)) d es h = absurd h
+by_picked s Array d es h = absurd h
+by_picked s (Refused n) d es h = absurd h
+
+picked_plain : (at : Pos) (b : Block) (s : Scope) (o : Entries) (t : Statement) → IsResolvedPicked b s o t
+    → IsPicked b s o (plain_statement t) × (picked_tree at s o (plain_statement t) ≡ t)
+picked_plain at b s o (call p d f es) h =
+    let q = by_picked (in_pick s o) (names_of (in_pick s o) f) d es h.2 in ((h.1, q.0), ap (call p d f) q.1)
+picked_plain at b s o _ h = absurd h
+
+pick_plain : (b : Block) (s : Scope) (p : Pos) (o : Option Picks) (x y : Statement) → IsResolvedPick b s o x y
+    → IsPick b s o (plain_statement x) (plain_statement y) × (pick_tree p s o (plain_statement x) (plain_statement y) ≡ pick p x y)
+pick_plain b s p None x y h = absurd h
+pick_plain b s p (Some names) x y h =
+    let q = picked_plain p b s names.after x h.0 in
+    let r = picked_plain p b s names.before y h.1 in
+    ((q.0, r.0), ap₂ (pick p) q.1 r.1)
+
+-- ---- all statements
+
 mutual
   statement_plain : (b : Block) (s : Scope) (t : Statement) → IsResolvedStatement b s t → IsPlainStatement b s (plain_statement t) t
   statement_plain b s (skip p) h = record { typed = tt; tree = refl }
@@ -216,8 +243,8 @@ mutual
   statement_plain b s (output p e) h = let q = plain_of (names_of s) Int e h.1 in record { typed = (h.0, q.typed); tree = ap (output p) q.tree }
   statement_plain b s (point p k) h = record { typed = h; tree = refl }
   statement_plain b s (choice p d k) h = record { typed = h; tree = refl }
-  statement_plain b s (force p) h = absurd h
-  statement_plain b s (pick p x y) h = absurd h
+  statement_plain b s (force p) h = record { typed = h; tree = refl }
+  statement_plain b s (pick p x y) h = let q = pick_plain b s p s.picks x y h in record { typed = q.0; tree = q.1 }
 
   pub list_plain : (b : Block) (s : Scope) (ts : Statements) → AreResolved b s ts → ArePlain b s (plain_statements ts) ts
   list_plain b s none h = record { typed = tt; tree = refl }

@@ -1,6 +1,6 @@
 -- What is typed is typed and in resolved form after resolution, in the same scopes.
 use Rattle.std.proofs.Common.{◌≡◌, ℕ, zero, suc, ℤ, pos, negsuc, Bool, true, false, List, [], ◌∷◌, Option, Some, None, refl, sym, ap, ap₂, ◌∙◌, subst}
-use Rattle.std.specs.Prelude.{if◌then◌else◌}
+use Rattle.std.specs.Prelude.{⊤, if◌then◌else◌}
 use Rattle.std.specs.Option.{option_or, option_map}
 use Rattle.c_lang.specs.Names.{Bytes}
 use Rattle.c_lang.specs.Trees.{Expression, literal, variable, element, function, null, negation, logical_not, binary, Statement, Statements, skip, set, set_element, call, call_by, if_else, while_loop, break_loop, return_with, assert_that, input, output, point, choice, force, pick, none, more}
@@ -9,18 +9,19 @@ use Rattle.c_lang.specs.declared.unit.Pos.{Pos}
 use Rattle.c_lang.specs.declared.stmt.Dest.{Dest}
 use Rattle.c_lang.specs.declared.stmt.Kind.{Kind}
 use Rattle.c_lang.specs.declared.stmt.Kind.TheVariants.{Int, Fp}
-use Rattle.c_types.specs.Names.{Means, Cell, Array, Code, Refused, Names}
-use Rattle.c_types.specs.Scopes.{Scope, Block, names_of, kind_of_dest, Picks}
+use Rattle.c_types.specs.Names.{Means, Cell, Array, Code, Refused, Names, Entries}
+use Rattle.c_types.specs.Scopes.{Scope, Block, names_of, kind_of_dest, Picks, in_pick}
 use Rattle.c_types.specs.Expressions.{kind_of, kind_of_name, or_int, own_kind, compares_kinds, place_of}
-use Rattle.c_types.specs.Calls.{place_in, ints}
-use Rattle.c_types.specs.Statements.{scope_after, block_in, entered, after_block}
-use Rattle.c_types.specs.Typing.{IsValue, IsFunction, IsLiteral, IsTyped, AreArguments, IsCall, IsCallBy, IsReturn, IsTypedStatement, AreTyped}
+use Rattle.c_types.specs.Calls.{place_in, ints, places_of, picked}
+use Rattle.c_types.specs.Statements.{dest_of, scope_after, block_in, entered, after_block}
+use Rattle.c_types.specs.Typing.{IsValue, IsFunction, IsLiteral, IsTyped, AreArguments, IsCall, IsCallBy, IsReturn, IsPicked, IsPick, IsTypedStatement, AreTyped}
 use Rattle.c_types.proofs.StatementsTyped.{array_kind}
-use Rattle.merged_types.proofs.Resolution.{name_tree, literal_tree, tree, trees, call_tree, statement_tree, list_tree, pick_tree}
-use Rattle.merged_types.proofs.ResolvedTyping.{IsVariable, IsResolved, AreResolvedArguments, IsResolvedCall, IsResolvedCallBy, IsResolvedReturn, IsResolvedStatement, AreResolved}
+use Rattle.merged_types.proofs.Resolution.{name_tree, literal_tree, tree, trees, call_tree, statement_tree, list_tree, picked_tree, pick_tree}
+use Rattle.written_laws.proofs.StatementFits.{DeclaresNothing}
+use Rattle.merged_types.proofs.ResolvedTyping.{IsVariable, IsResolved, AreResolvedArguments, IsResolvedCall, IsResolvedCallBy, IsResolvedReturn, IsResolvedPicked, IsResolvedPick, IsResolvedStatement, AreResolved}
 use Rattle.merged_types.proofs.SameScopes.{DeclaresSame, DeclareSame, declare_nothing, declare_more, declares_if, declares_while, same_after, same_entered, same_after_block}
 use Rattle.c_types.specs.Functions.{IsPlain}
-use Rattle.c_types.proofs.FunctionLaws.{plain_after, no_force, no_pick}
+use Rattle.c_types.proofs.FunctionLaws.{plain_after, no_pick}
 use Rattle.c_types.proofs.PlainLaws.{element_int}
 
 -- ---- kinds
@@ -183,50 +184,99 @@ return_resolved names false None h = tt
 return_resolved names true (Some e) h = expression_resolved names Int e h
 return_resolved names false (Some e) h = absurd h
 
+-- ---- picks
+
+-- the calls of all picks declare nothing, as texts have them
+abbrev mutual
+  pub PicksDeclareNothing : Statement → Type 0
+  PicksDeclareNothing (if_else p e xs ys) = AllPicksDeclareNothing xs × AllPicksDeclareNothing ys
+  PicksDeclareNothing (while_loop p e xs) = AllPicksDeclareNothing xs
+  PicksDeclareNothing (pick p a b) = DeclaresNothing (dest_of a) × DeclaresNothing (dest_of b)
+  PicksDeclareNothing s = ⊤
+
+  pub AllPicksDeclareNothing : Statements → Type 0
+  AllPicksDeclareNothing none = ⊤
+  AllPicksDeclareNothing (more s ss) = PicksDeclareNothing s × AllPicksDeclareNothing ss
+
+-- in a scope where no pick may stand
 mutual
-  pub statement_resolved : (b : Block) (s : Scope) (t : Statement) → IsPlain s → IsTypedStatement b s t → IsResolvedStatement b s (statement_tree s t)
-  statement_resolved b s (skip p) plain h = tt
-  statement_resolved b s (set p d e) plain h =
+  plain_picks : (b : Block) (s : Scope) (t : Statement) → IsPlain s → IsTypedStatement b s t → PicksDeclareNothing t
+  plain_picks b s (if_else p e xs ys) plain h =
+      (plain_all_picks (block_in s) (entered s xs) xs (refl, plain.1) h.1, plain_all_picks (block_in s) (entered (after_block s xs) ys) ys (refl, plain.1) h.2)
+  plain_picks b s (while_loop p e xs) plain h = plain_all_picks (block_in s) (entered s xs) xs (refl, plain.1) h.1
+  plain_picks b s (pick p x y) plain h = absurd (no_pick b s x y plain h)
+  plain_picks b s _ plain h = tt
+
+  pub plain_all_picks : (b : Block) (s : Scope) (ts : Statements) → IsPlain s → AreTyped b s ts → AllPicksDeclareNothing ts
+  plain_all_picks b s none plain h = tt
+  plain_all_picks b s (more t ts) plain h = (plain_picks b s t plain h.0, plain_all_picks b (scope_after s t) ts (plain_after s t plain) h.1)
+
+by_picked : (s : Scope) (m : Means) (d : Dest) (es : List Expression) → IsCall s (picked m) d es → IsResolvedCall s (picked m) d (trees (names_of s) (places_of m) es)
+by_picked s (Code params gives value None) d es h = (h.0, h.1, arguments_resolved (names_of s) params es h.2)
+by_picked s (Code params gives value (Some n)) d es h = absurd h
+by_picked s (Cell Int) d es h = absurd h
+by_picked s (Cell (Fp n)) d es h = absurd h
+by_picked s Array d es h = absurd h
+by_picked s (Refused n) d es h = absurd h
+
+picked_resolved : (at : Pos) (b : Block) (s : Scope) (o : Entries) (t : Statement) → DeclaresNothing (dest_of t) → IsPicked b s o t
+    → IsResolvedPicked b s o (picked_tree at s o t)
+picked_resolved at b s o (call p d f es) quiet h = (quiet, h.0, by_picked (in_pick s o) (names_of (in_pick s o) f) d es h.1)
+picked_resolved at b s o _ quiet h = absurd h
+
+pick_resolved : (b : Block) (s : Scope) (p : Pos) (o : Option Picks) (x y : Statement) → s.picks ≡ o → PicksDeclareNothing (pick p x y) → IsPick b s o x y
+    → IsResolvedStatement b s (pick_tree p s o x y)
+pick_resolved b s p None x y is quiet h = absurd h
+pick_resolved b s p (Some names) x y is quiet h =
+    subst (λ (o : Option Picks). IsResolvedPick b s o (picked_tree p s names.after x) (picked_tree p s names.before y)) (sym is)
+    (picked_resolved p b s names.after x quiet.0 h.0, picked_resolved p b s names.before y quiet.1 h.1)
+
+-- ---- all statements
+
+mutual
+  pub statement_resolved : (b : Block) (s : Scope) (t : Statement) → PicksDeclareNothing t → IsTypedStatement b s t → IsResolvedStatement b s (statement_tree s t)
+  statement_resolved b s (skip p) quiet h = tt
+  statement_resolved b s (set p d e) quiet h =
       let k = place_in s d e in
       let same : place_in s d (tree (names_of s) k e) ≡ k = ap (λ (o : Option Kind). or_int (option_or (kind_of_dest s d) o)) (kind_tree (names_of s) k e h.1) in
       (h.0, subst (λ (l : Kind). IsResolved (names_of s) l (tree (names_of s) k e)) (sym same) (expression_resolved (names_of s) k e h.1))
-  statement_resolved b s (set_element p a i e) plain h = (
+  statement_resolved b s (set_element p a i e) quiet h = (
     h.0,
     expression_resolved (names_of s) Int i h.1,
     subst (λ (k : Kind). IsResolved (names_of s) Int (tree (names_of s) k e)) (sym (array_kind (names_of s) (names_of s a) e h.0)) (expression_resolved (names_of s) Int e h.2),
   )
-  statement_resolved b s (call p d f es) plain h = call_resolved b s (names_of s f) p d f es refl h h.1
-  statement_resolved b s (call_by p d x es) plain h = (h.0, call_by_resolved s (names_of s x) d es h.1)
-  statement_resolved b s (if_else p c xs ys) plain h =
+  statement_resolved b s (call p d f es) quiet h = call_resolved b s (names_of s f) p d f es refl h h.1
+  statement_resolved b s (call_by p d x es) quiet h = (h.0, call_by_resolved s (names_of s x) d es h.1)
+  statement_resolved b s (if_else p c xs ys) quiet h =
       let vs = list_tree (entered s xs) xs in
       let first : DeclareSame vs xs = trees_declare (entered s xs) xs in
       let ws = list_tree (entered (after_block s xs) ys) ys in
       let second : DeclareSame ws ys = trees_declare (entered (after_block s xs) ys) ys in (
         expression_resolved (names_of s) Int c h.0,
-        subst (λ (t : Scope). AreResolved (block_in s) t vs) (sym (same_entered vs xs first s)) (list_resolved (block_in s) (entered s xs) xs (refl, plain.1) h.1),
+        subst (λ (t : Scope). AreResolved (block_in s) t vs) (sym (same_entered vs xs first s)) (list_resolved (block_in s) (entered s xs) xs quiet.0 h.1),
         subst (λ (t : Scope). AreResolved (block_in s) t ws) (sym (ap (λ (t : Scope). entered t ws) (same_after_block vs xs first s) ∙ same_entered ws ys second (after_block s xs)))
-            (list_resolved (block_in s) (entered (after_block s xs) ys) ys (refl, plain.1) h.2),
+            (list_resolved (block_in s) (entered (after_block s xs) ys) ys quiet.1 h.2),
       )
-  statement_resolved b s (while_loop p c xs) plain h =
+  statement_resolved b s (while_loop p c xs) quiet h =
       let vs = list_tree (entered s xs) xs in
       let first : DeclareSame vs xs = trees_declare (entered s xs) xs in (
         expression_resolved (names_of s) Int c h.0,
-        subst (λ (t : Scope). AreResolved (block_in s) t vs) (sym (same_entered vs xs first s)) (list_resolved (block_in s) (entered s xs) xs (refl, plain.1) h.1),
+        subst (λ (t : Scope). AreResolved (block_in s) t vs) (sym (same_entered vs xs first s)) (list_resolved (block_in s) (entered s xs) xs quiet h.1),
       )
-  statement_resolved b s (break_loop p) plain h = tt
-  statement_resolved b s (return_with p e) plain h = return_resolved (names_of s) s.gives e h
-  statement_resolved b s (assert_that p e) plain h = expression_resolved (names_of s) Int e h
-  statement_resolved b s (input p d) plain h = h
-  statement_resolved b s (output p e) plain h = (h.0, expression_resolved (names_of s) Int e h.1)
-  statement_resolved b s (point p k) plain h = h
-  statement_resolved b s (choice p d k) plain h = h
-  statement_resolved b s (force p) plain h = absurd (no_force s plain h)
-  statement_resolved b s (pick p x y) plain h = absurd (no_pick b s x y plain h)
+  statement_resolved b s (break_loop p) quiet h = tt
+  statement_resolved b s (return_with p e) quiet h = return_resolved (names_of s) s.gives e h
+  statement_resolved b s (assert_that p e) quiet h = expression_resolved (names_of s) Int e h
+  statement_resolved b s (input p d) quiet h = h
+  statement_resolved b s (output p e) quiet h = (h.0, expression_resolved (names_of s) Int e h.1)
+  statement_resolved b s (point p k) quiet h = h
+  statement_resolved b s (choice p d k) quiet h = h
+  statement_resolved b s (force p) quiet h = h
+  statement_resolved b s (pick p x y) quiet h = pick_resolved b s p s.picks x y refl quiet h
 
-  pub list_resolved : (b : Block) (s : Scope) (ts : Statements) → IsPlain s → AreTyped b s ts → AreResolved b s (list_tree s ts)
-  list_resolved b s none plain h = tt
-  list_resolved b s (more t ts) plain h = (
-    statement_resolved b s t plain h.0,
+  pub list_resolved : (b : Block) (s : Scope) (ts : Statements) → AllPicksDeclareNothing ts → AreTyped b s ts → AreResolved b s (list_tree s ts)
+  list_resolved b s none quiet h = tt
+  list_resolved b s (more t ts) quiet h = (
+    statement_resolved b s t quiet.0 h.0,
     subst (λ (u : Scope). AreResolved b u (list_tree (scope_after s t) ts)) (sym (same_after (statement_tree s t) t s (tree_declares s t)))
-        (list_resolved b (scope_after s t) ts (plain_after s t plain) h.1),
+        (list_resolved b (scope_after s t) ts quiet.1 h.1),
   )

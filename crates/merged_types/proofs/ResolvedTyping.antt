@@ -3,9 +3,13 @@
 -- written as one.
 use Rattle.std.specs.Prelude.{⊤, ◌≡◌, Bool, true, false, List, [], ◌∷◌, Option, Some, None}
 use Rattle.c_lang.specs.Trees.{Expression, literal, variable, element, function, null, negation, logical_not, binary, Statement, Statements, skip, set, set_element, call, call_by, if_else, while_loop, break_loop, return_with, assert_that, input, output, point, choice, force, pick, none, more}
+use Rattle.c_lang.specs.Names.{Bytes}
+use Rattle.c_lang.specs.declared.unit.Pos.{Pos}
 use Rattle.c_lang.specs.declared.stmt.Dest.{Dest}
+use Rattle.c_lang.specs.declared.stmt.Dest.TheVariants.{Nowhere, Into, Fresh}
 use Rattle.c_lang.specs.declared.stmt.Kind.{Kind}
 use Rattle.c_lang.specs.declared.stmt.Kind.TheVariants.{Int, Fp}
+use Rattle.written_laws.proofs.StatementFits.{DeclaresNothing}
 use Rattle.c_types.specs.Names.{Means, Cell, Array, Code, Refused, Names, Entries}
 use Rattle.c_types.specs.Scopes.{Picks, Scope, Block, in_pick, names_of}
 use Rattle.c_types.specs.Expressions.{place_of}
@@ -66,7 +70,8 @@ IsResolvedReturn names false (Some e) = ⊥
 -- one of the two calls of a pick, which sees these names
 abbrev pub IsResolvedPicked : Block → Scope → Entries → Statement → Type 0
 IsResolvedPicked block scope outside (call p d f es) =
-    let inside = in_pick scope outside in IsDest block inside d × IsResolvedCall inside (picked (names_of inside f)) d es
+    let inside = in_pick scope outside in
+    DeclaresNothing d × IsDest block inside d × IsResolvedCall inside (picked (names_of inside f)) d es
 IsResolvedPicked block scope outside s = ⊥
 
 abbrev pub IsResolvedPick : Block → Scope → Option Picks → Statement → Statement → Type 0
@@ -99,3 +104,12 @@ abbrev mutual
   pub AreResolved : Block → Scope → Statements → Type 0
   AreResolved block scope none = ⊤
   AreResolved block scope (more s ss) = IsResolvedStatement block scope s × AreResolved block (scope_after scope s) ss
+
+-- what holds of each call that declares nothing holds of both calls of a pick
+pub picked_has : (P : Statement → Type 0) → ((p : Pos) (f : Bytes) (es : List Expression) → P (call p Nowhere f es))
+    → ((p : Pos) (x f : Bytes) (es : List Expression) → P (call p (Into x) f es))
+    → (b : Block) (s : Scope) (outside : Entries) (t : Statement) → IsResolvedPicked b s outside t → P t
+picked_has P off into b s outside (call p Nowhere f es) h = off p f es
+picked_has P off into b s outside (call p (Into x) f es) h = into p x f es
+picked_has P off into b s outside (call p (Fresh k x) f es) h = absurd h.0
+picked_has P off into b s outside _ h = absurd h

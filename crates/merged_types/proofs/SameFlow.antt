@@ -6,16 +6,20 @@ use Rattle.c_lang.specs.Trees.{Expression, literal, variable, element, function,
 use Rattle.c_lang.specs.declared.unit.Pos.{Pos}
 use Rattle.c_lang.specs.declared.stmt.Dest.{Dest}
 use Rattle.c_lang.specs.declared.stmt.Kind.TheVariants.{Int}
-use Rattle.c_types.specs.Names.{Means, Cell, Array, Code, Refused}
+use Rattle.c_types.specs.Names.{Means, Cell, Array, Code, Refused, Entries}
 use Rattle.c_types.specs.Scopes.{Scope, Picks, Block, names_of}
 use Rattle.c_types.specs.Endings.{is_forever, breaks, any_breaks, ends, can_end}
 use Rattle.c_types.specs.Statements.{scope_after, block_in, entered, after_block}
 use Rattle.c_types.specs.Plain.{plain_expression, plain_statement, plain_statements}
+use Rattle.version_names.specs.Parts.{Parts}
 use Rattle.version_names.specs.Provenance.{Provenance, may_update}
+use Rattle.client_specs.specs.declared.region.Region.{Region}
+use Rattle.client_specs.specs.declared.region.Region.TheVariants.{After, Before}
+use Rattle.client_specs.specs.Spelled.{region_after, spelled_expression, spelled_statement, spelled_statements}
 use Rattle.merged_program.specs.Expressions.{renamed}
 use Rattle.merged_program.specs.Statements.{asking, merged_statement, merged_statements}
 use Rattle.merged_types.proofs.Resolution.{name_tree, tree, call_tree, pick_tree, statement_tree, list_tree}
-use Rattle.merged_types.proofs.ResolvedTyping.{IsResolvedStatement, AreResolved}
+use Rattle.merged_types.proofs.ResolvedTyping.{IsResolvedPicked, IsResolvedPick, picked_has, IsResolvedStatement, AreResolved}
 
 record FlowsSame (a b : Statement) : Type 0 where
   breaks : breaks a ≡ breaks b
@@ -124,52 +128,67 @@ mutual
   flow_plain_list none = record { breaks = refl; ends = refl }
   flow_plain_list (more t ts) = flow_more (plain_statement t) t (plain_statements ts) ts (flow_plain t) (flow_plain_list ts)
 
--- ---- merging
+-- ---- merging, of code in which a name means what it does in its region
 
-forever_renamed : (ρ κ : Bytes → Bytes) (e : Expression) → is_forever (renamed ρ κ e) ≡ is_forever e
-forever_renamed ρ κ (literal z) = refl
-forever_renamed ρ κ (variable x) = refl
-forever_renamed ρ κ (element a i) = refl
-forever_renamed ρ κ (function f) = refl
-forever_renamed ρ κ null = refl
-forever_renamed ρ κ (negation e) = refl
-forever_renamed ρ κ (logical_not e) = refl
-forever_renamed ρ κ (binary o a b) = refl
+module _ (permits : ℕ → Bool) (ρs κs : Provenance → Bytes → Bytes) (o : Provenance) (parts : Parts) where
+  forever_renamed : (r : Region) (e : Expression) → is_forever (renamed (ρs o) (κs o) (spelled_expression parts r e)) ≡ is_forever e
+  forever_renamed r (literal z) = refl
+  forever_renamed r (variable x) = refl
+  forever_renamed r (element a i) = refl
+  forever_renamed r (function f) = refl
+  forever_renamed r null = refl
+  forever_renamed r (negation e) = refl
+  forever_renamed r (logical_not e) = refl
+  forever_renamed r (binary o a b) = refl
 
-module _ (permits : ℕ → Bool) (ρs κs : Provenance → Bytes → Bytes) (o : Provenance) where
-  abbrev merged : Statement → Statement
-  merged = merged_statement permits ρs κs o
+  abbrev merged : Region → Statement → Statement
+  merged r t = merged_statement permits ρs κs o (spelled_statement parts r t)
 
-  abbrev all_merged : Statements → Statements
-  all_merged = merged_statements permits ρs κs o
+  abbrev all_merged : Region → Statements → Statements
+  all_merged r ts = merged_statements permits ρs κs o (spelled_statements parts r ts)
 
   flow_point : (y : Bool) (p : Pos) (k : ℕ) → FlowsSame (if y then asking p k else skip p) (point p k)
   flow_point true p k = record { breaks = refl; ends = refl }
   flow_point false p k = record { breaks = refl; ends = refl }
 
-  mutual
-    flow_merged : (b : Block) (s : Scope) (t : Statement) → IsResolvedStatement b s t → FlowsSame (merged t) t
-    flow_merged b s (skip p) h = record { breaks = refl; ends = refl }
-    flow_merged b s (set p d e) h = record { breaks = refl; ends = refl }
-    flow_merged b s (set_element p a i e) h = record { breaks = refl; ends = refl }
-    flow_merged b s (call p d f es) h = record { breaks = refl; ends = refl }
-    flow_merged b s (call_by p d x es) h = record { breaks = refl; ends = refl }
-    flow_merged b s (if_else p c xs ys) h =
-        flows_if p p (renamed (ρs o) (κs o) c) c (all_merged xs) (all_merged ys) xs ys
-        (flow_merged_list (block_in s) (entered s xs) xs h.1) (flow_merged_list (block_in s) (entered (after_block s xs) ys) ys h.2)
-    flow_merged b s (while_loop p c xs) h =
-        flows_while p p (renamed (ρs o) (κs o) c) c (all_merged xs) xs (forever_renamed (ρs o) (κs o) c) (flow_merged_list (block_in s) (entered s xs) xs h.1)
-    flow_merged b s (break_loop p) h = record { breaks = refl; ends = refl }
-    flow_merged b s (return_with p e) h = record { breaks = refl; ends = refl }
-    flow_merged b s (assert_that p e) h = record { breaks = refl; ends = refl }
-    flow_merged b s (input p d) h = record { breaks = refl; ends = refl }
-    flow_merged b s (output p e) h = record { breaks = refl; ends = refl }
-    flow_merged b s (point p k) h = flow_point (may_update o && permits k) p k
-    flow_merged b s (choice p d k) h = record { breaks = refl; ends = refl }
-    flow_merged b s (force p) h = absurd h
-    flow_merged b s (pick p x y) h = absurd h
+  flow_picked : (r : Region) (p : Pos) (b : Block) (s : Scope) (outside : Entries) (t : Statement) → IsResolvedPicked b s outside t
+      → FlowSame (more (merged r t) none) (more (skip p) none)
+  flow_picked r p =
+      picked_has (λ (t : Statement). FlowSame (more (merged r t) none) (more (skip p) none))
+      (λ q f es. record { breaks = refl; ends = refl }) (λ q x f es. record { breaks = refl; ends = refl })
 
-    pub flow_merged_list : (b : Block) (s : Scope) (ts : Statements) → AreResolved b s ts → FlowSame (all_merged ts) ts
-    flow_merged_list b s none h = record { breaks = refl; ends = refl }
-    flow_merged_list b s (more t ts) h =
-        flow_more (merged t) t (all_merged ts) ts (flow_merged b s t h.0) (flow_merged_list b (scope_after s t) ts h.1)
+  flow_merged_pick : (r : Region) (b : Block) (s : Scope) (p : Pos) (picks : Option Picks) (x y : Statement) → IsResolvedPick b s picks x y
+      → FlowsSame (merged r (pick p x y)) (pick p x y)
+  flow_merged_pick r b s p None x y h = absurd h
+  flow_merged_pick r b s p (Some names) x y h =
+      let first = flow_picked After p b s names.after x h.0 in
+      let second = flow_picked Before p b s names.before y h.1 in
+      record { breaks = ap₂ ◌||◌ first.breaks second.breaks; ends = ap₂ ◌||◌ first.ends second.ends }
+
+  mutual
+    flow_merged : (r : Region) (b : Block) (s : Scope) (t : Statement) → IsResolvedStatement b s t → FlowsSame (merged r t) t
+    flow_merged r b s (skip p) h = record { breaks = refl; ends = refl }
+    flow_merged r b s (set p d e) h = record { breaks = refl; ends = refl }
+    flow_merged r b s (set_element p a i e) h = record { breaks = refl; ends = refl }
+    flow_merged r b s (call p d f es) h = record { breaks = refl; ends = refl }
+    flow_merged r b s (call_by p d x es) h = record { breaks = refl; ends = refl }
+    flow_merged r b s (if_else p c xs ys) h =
+        flows_if p p (renamed (ρs o) (κs o) (spelled_expression parts r c)) c (all_merged r xs) (all_merged r ys) xs ys
+        (flow_merged_list r (block_in s) (entered s xs) xs h.1) (flow_merged_list r (block_in s) (entered (after_block s xs) ys) ys h.2)
+    flow_merged r b s (while_loop p c xs) h =
+        flows_while p p (renamed (ρs o) (κs o) (spelled_expression parts r c)) c (all_merged r xs) xs (forever_renamed r c)
+        (flow_merged_list r (block_in s) (entered s xs) xs h.1)
+    flow_merged r b s (break_loop p) h = record { breaks = refl; ends = refl }
+    flow_merged r b s (return_with p e) h = record { breaks = refl; ends = refl }
+    flow_merged r b s (assert_that p e) h = record { breaks = refl; ends = refl }
+    flow_merged r b s (input p d) h = record { breaks = refl; ends = refl }
+    flow_merged r b s (output p e) h = record { breaks = refl; ends = refl }
+    flow_merged r b s (point p k) h = flow_point (may_update o && permits k) p k
+    flow_merged r b s (choice p d k) h = record { breaks = refl; ends = refl }
+    flow_merged r b s (force p) h = record { breaks = refl; ends = refl }
+    flow_merged r b s (pick p x y) h = flow_merged_pick r b s p s.picks x y h
+
+    pub flow_merged_list : (r : Region) (b : Block) (s : Scope) (ts : Statements) → AreResolved b s ts → FlowSame (all_merged r ts) ts
+    flow_merged_list r b s none h = record { breaks = refl; ends = refl }
+    flow_merged_list r b s (more t ts) h =
+        flow_more (merged r t) t (all_merged (region_after r t) ts) ts (flow_merged r b s t h.0) (flow_merged_list (region_after r t) b (scope_after s t) ts h.1)

@@ -4,7 +4,7 @@ use Rattle.c_lang.specs.Trees.{Statement, Statements, if_else, while_loop, none,
 use Rattle.c_lang.specs.declared.unit.Pos.{Pos}
 use Rattle.c_types.specs.Names.{Entries}
 use Rattle.c_types.specs.Scopes.{Scope, with_dest}
-use Rattle.c_types.specs.Statements.{dest_of, with_locals, told_by, told_by_all, scope_after, entered, after_block, is_force}
+use Rattle.c_types.specs.Statements.{dest_of, with_locals, told_by, told_by_all, scope_after, begun, entered, after_block, is_force}
 use Rattle.std.specs.Prelude.{if◌then◌else◌, unwrap_or}
 
 pub record DeclaresSame (a b : Statement) : Type 0 where
@@ -34,6 +34,9 @@ module _ (xs ys : Statements) (h : DeclareSame xs ys) where
 
   pub same_entered : (s : Scope) → entered s xs ≡ entered s ys
   same_entered s = ap (λ (e : Entries). record s { ahead = e; forced = None }) (h.locals s.ahead)
+
+  pub same_begun : (s : Scope) → begun s xs ≡ begun s ys
+  same_begun s = ap (λ (e : Entries). record s { ahead = e }) (h.locals s.ahead)
 
   pub same_after_block : (s : Scope) → after_block s xs ≡ after_block s ys
   same_after_block s = ap (λ (e : Entries). record s { told = e }) (told_block s.told)

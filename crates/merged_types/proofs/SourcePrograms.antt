@@ -9,7 +9,7 @@ use Rattle.c_types.specs.Names.{Entries}
 use Rattle.c_types.specs.Programs.{with_global, with_globals, with_func, with_funcs, outside_of, cells_of, resolved_funcs, resolved_program}
 use Rattle.c_types.specs.Types.{IsInitial, IsHeld, AreTypedGlobals, AreTypedProtos, AreTypedFuncs, Types}
 use Rattle.merged_program.proofs.MainLaws.{new_funcs, same_start}
-use Rattle.merged_types.proofs.ResolvedFuncs.{IsResolvedFunc, source_resolved}
+use Rattle.merged_types.proofs.ResolvedFuncs.{IsResolvedFunc, func_resolved}
 use Rattle.merged_types.proofs.PlainPrograms.{AreNewGlobals, Each, all_cells, IsResolvedProgram}
 
 -- ---- globals
@@ -37,7 +37,7 @@ same_heads outside xform es (f ∷ fs) = same_heads outside xform (with_func es 
 
 each_func : (outside seen : Entries) (fs : List Func) → AreTypedFuncs outside false seen fs → Each (IsResolvedFunc outside false) (resolved_funcs outside false fs)
 each_func outside seen [] h = tt
-each_func outside seen (f ∷ fs) h = (source_resolved outside false f h.1, each_func outside (with_func seen f) fs h.2)
+each_func outside seen (f ∷ fs) h = (func_resolved outside false f h.1, each_func outside (with_func seen f) fs h.2)
 
 -- ---- programs
 

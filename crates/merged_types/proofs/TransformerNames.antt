@@ -94,11 +94,11 @@ module _ (parts : Parts) (outside : Entries) where
       by_option None e = refl
       by_option (Some f) e = absurd (true_false (sym k ∙ (own_free [] fs h y (ap is_some e)).1))
 
-old_names_version : (x : Bytes) → names_version (merged_name prefix.Old x) ≡ true
+pub old_names_version : (x : Bytes) → names_version (merged_name prefix.Old x) ≡ true
 unfolding names_version
 old_names_version x = refl
 
-new_names_version : (x : Bytes) → names_version (merged_name prefix.New x) ≡ true
+pub new_names_version : (x : Bytes) → names_version (merged_name prefix.New x) ≡ true
 unfolding names_version
 new_names_version x = refl
 
@@ -289,7 +289,7 @@ module _ (W : World) (p : Program) (h : SeesVersions W p) where
 
   own_kept : AllKept ρ κ outside own_names
   own_kept =
-      kept_own ρ κ outside (with_globals [] p.globals) p.funcs
+      kept_own ρ κ outside None (with_globals [] p.globals) p.funcs
       (subst (λ (gs : List GlobalVar). AllKept ρ κ outside (with_globals [] gs)) (sym h.globals) (λ x. tt))
       (own_entries p.funcs (each_own [] p.funcs (own_new parts seen [] p.funcs h.own)))
 

@@ -212,7 +212,7 @@ module _ (W : World) where
   abbrev main_name : Bytes
   main_name = codes "main"
 
-  not_main : (fs : List Func) (x : Bytes) → is_some (func_named fs main_name) ≡ true → func_named fs x ≡ None → bytes_eq main_name x ≡ false
+  pub not_main : (fs : List Func) (x : Bytes) → is_some (func_named fs main_name) ≡ true → func_named fs x ≡ None → bytes_eq main_name x ≡ false
   not_main fs x main e = by_bool (bytes_eq main_name x)
       (λ h. absurd (some_not (func_named fs x) (ap (λ (y : Bytes). is_some (func_named fs y)) (sym (same_names main_name x h)) ∙ main) e))
       (λ h. h)

@@ -1,5 +1,5 @@
 -- What is visible in a transformer, entry by entry.
-use Rattle.std.proofs.Common.{◌≡◌, cond, Bool, true, false, List, [], ◌∷◌, Option, Some, None, is_some, sym, ap, ◌∙◌, subst}
+use Rattle.std.proofs.Common.{◌≡◌, ℕ, cond, Bool, true, false, List, [], ◌∷◌, Option, Some, None, is_some, sym, ap, ◌∙◌, subst}
 use Rattle.std.specs.Prelude.{⊤, if◌then◌else◌}
 use Rattle.std.specs.Option.{option_or}
 use Rattle.std.specs.Str.{bytes_eq}
@@ -102,9 +102,9 @@ module _ (ρ κ : Bytes → Bytes) (outside : Entries) where
   kept_part (Some New) es x m h k = kept_prefixed prefix.New es x m h k
   kept_part None es x m h k = h
 
-  pub kept_own : (es : Entries) (fs : List Func) → AllKept es → Each (λ (f : Func). IsKeptEntry f.name (Some (own_func None f))) fs → AllKept (with_own_funcs None es fs)
-  kept_own es [] h k = h
-  kept_own es (f ∷ fs) h k = kept_own (added es f.name (own_func None f)) fs (kept_added es f.name (own_func None f) h k.0) k.1
+  pub kept_own : (denied : Option ℕ) (es : Entries) (fs : List Func) → AllKept es → Each (λ (f : Func). IsKeptEntry f.name (Some (own_func denied f))) fs → AllKept (with_own_funcs denied es fs)
+  kept_own denied es [] h k = h
+  kept_own denied es (f ∷ fs) h k = kept_own denied (added es f.name (own_func denied f)) fs (kept_added es f.name (own_func denied f) h k.0) k.1
 
   module _ (parts : Parts) (v : Version) where
     pub kept_cells : (es : Entries) (gs : List GlobalVar) → AllKept es → Each (λ (g : GlobalVar). IsKeptPart (parts v sort.Cell g.name) g.name (means_of_shape g.shape)) gs

@@ -23,6 +23,7 @@ use Rattle.c_grammar.specs.Statements.{CondTree, cond_tokens, side_tokens, call_
 use Rattle.c_grammar.specs.Statements as tree
 use Rattle.written_laws.specs.Walk.{Context, with_dest, told, told_all, in_loop, in_pick, past_all, Throughout, ThroughoutAll}
 use Rattle.c_types.specs.Bodies.{body_of}
+use Rattle.c_types.specs.Statements.{dest_of}
 use Rattle.written_laws.specs.Breaks.{IsNoStrayBreak}
 use Rattle.written_laws.specs.Destinations.{OfResult, IsLocal}
 use Rattle.written_laws.specs.Literals.{StatementHasInts}
@@ -39,8 +40,15 @@ IsTarget Nowhere = ⊥
 IsTarget (Into x) = ⊤
 IsTarget (Fresh k x) = ⊤
 
+abbrev pub DeclaresNothing : Dest → Type 0
+DeclaresNothing Nowhere = ⊤
+DeclaresNothing (Into x) = ⊤
+DeclaresNothing (Fresh k x) = ⊥
+
+-- and the calls of a pick declare nothing
 abbrev pub HasTarget : Statement → Type 0
 HasTarget (set p d e) = IsTarget d
+HasTarget (pick p a b) = DeclaresNothing (dest_of a) × DeclaresNothing (dest_of b)
 HasTarget s = ⊤
 
 -- all that the laws say of a statement
@@ -150,6 +158,14 @@ module _ (u : Unit) (at : Context) where
   pick_fits (tree.bare a) h = one_call a h
   pick_fits (tree.braced o a cl) h = one_call a (fit_append u (one_tokens a) (mark brace_close cl ∷ []) h.1).0
 
+one_quiet : (t : OneTree) → DeclaresNothing (dest_of (statement_of (one_stmt t)))
+one_quiet (tree.ignored c end) = rw (statement_of-Call c.at.pos Nowhere c.callee (exprs_of c.arguments)) tt
+one_quiet (tree.kept at x is c end) = rw (statement_of-Call at.pos (Into x) c.callee (exprs_of c.arguments)) tt
+
+pick_quiet : (t : PickTree) → DeclaresNothing (dest_of (statement_of (pick_stmt t)))
+pick_quiet (tree.bare a) = one_quiet a
+pick_quiet (tree.braced o a c) = one_quiet a
+
 -- ---- single statements
 
 module _ (u : Unit) (may_declare : Bool) (at : Context) (sc : Scope) (covers : Covers sc at.declared) where
@@ -193,7 +209,7 @@ module _ (u : Unit) (may_declare : Bool) (at : Context) (sc : Scope) (covers : C
   simple_fits (tree.pick at' o v uo uc c a el b) valid h =
       let split = fit_append u (pick_tokens a) (keyword else_key el ∷ pick_tokens b) h.1.1.1.1.1.1 in
       one_fits (pick at'.pos (statement_of (pick_stmt a)) (statement_of (pick_stmt b))) (statement_of-Pick at'.pos (pick_stmt a) (pick_stmt b))
-      (record { target = tt; breaks = tt; results = tt; ints = tt; words = tt }, pick_fits u at a split.0, pick_fits u at b split.1.1) covers
+      (record { target = (pick_quiet a, pick_quiet b); breaks = tt; results = tt; ints = tt; words = tt }, pick_fits u at a split.0, pick_fits u at b split.1.1) covers
 
 -- ---- statements and bodies
 

@@ -20,7 +20,7 @@ use Rattle.written_laws.specs.SourceNames.{IsWord, ShapeHasNames, StatementHasNa
 use Rattle.written_laws.proofs.Walks.{both_all, weaker_all}
 use Rattle.c_types.specs.Programs.{outside_of}
 use Rattle.c_types.specs.Types.{Types}
-use Rattle.written_laws.proofs.StatementFits.{IsFit}
+use Rattle.written_laws.proofs.StatementFits.{HasTarget, IsFit}
 use Rattle.written_laws.proofs.TypedLocals.{IsNew, Apart, typed_apart, outside_is_global}
 use Rattle.written_laws.proofs.ProgramFits.{GlobalFits, FuncFits, written_fits}
 
@@ -31,6 +31,10 @@ in_bodies u Says gives p h =
 
 pub breaks : (u : Unit) (p : Program) → IsWritten u p → BreaksStandInLoops p
 breaks u p h = in_bodies u IsNoStrayBreak (λ at s k. k.breaks) p (written_fits u p h).funcs
+
+-- the calls of picks declare nothing
+pub targets : (u : Unit) (p : Program) → IsWritten u p → InBodies (λ at s. HasTarget s) p
+targets u p h = in_bodies u (λ at s. HasTarget s) (λ at s k. k.target) p (written_fits u p h).funcs
 
 pub results : (u : Unit) (p : Program) → IsWritten u p → ResultsGoToLocals p
 results u p h = in_bodies u (λ at s. OfResult (IsLocal at) s) (λ at s k. k.results) p (written_fits u p h).funcs
