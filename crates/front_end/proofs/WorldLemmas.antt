@@ -207,10 +207,13 @@ module _ (listed : Option (List ℕ)) (ts : Texts) (sizes : AllHold (size_condit
             all-append (size_conditions ts) after_sizes sizes
             (all-append (token_conditions ts) after_tokens tokens_hold
             (all-append (grammar_conditions ts) (type_conditions ts ++ update_conditions listed ts) grammar_holds
-            (all-append (type_conditions ts) (update_conditions listed ts) types_hold
-            ((w.first, is.client_source, is.versions.old, is.client_parses, is.told_apart),
-            ((w.first, w.second, is.source, is.versions, is.parses, is.transformer),
-            client_holds ts w.first w.second ts.client is.client_source w.client is.versions is.client_parses is.client)))))
+            (all-append (type_conditions ts) (update_conditions listed ts) types_hold (
+              (w.first, is.client_source, is.versions.old, is.client_parses, is.told_apart),
+              (
+                (w.first, w.second, is.source, is.versions, is.parses, is.transformer),
+                client_holds ts w.first w.second ts.client is.client_source w.client is.versions is.client_parses is.client,
+              ),
+            ))))
 
         pub accepted : (result : Result World Fail)
             → MatchResult result (λ w. IsWorldOf listed ts (world_of w)) (IsRefusedBy (update_conditions listed ts))

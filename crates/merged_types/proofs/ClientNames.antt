@@ -106,7 +106,7 @@ module _ (W : World) (spec : Bytes) (p : Program) (h : ClientSees W spec p) wher
           arity_as_value (kinds_of f.params) f.gives,
           (
             ap (λ (y : Bytes). found outside (function_name W origin.Client y)) itself
-            ∙ ap (λ (o : Option Func). found outside (code_name (if is_some o then (home.Client, f.name) else linked_by_prefix (code_part W.first W.second) f.name))) there ∙ is,
+                ∙ ap (λ (o : Option Func). found outside (code_name (if is_some o then (home.Client, f.name) else linked_by_prefix (code_part W.first W.second) f.name))) there ∙ is,
             tt,
           ),
         ),

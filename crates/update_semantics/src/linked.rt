@@ -49,8 +49,8 @@ impl Function<'_> {
             (Function::Version(a), Function::Version(b)) => {
                 same_part(a.part, b.part) && a.name == b.name
             }
-            (Function::Xform(a), Function::Xform(b))
-            | (Function::Client(a), Function::Client(b)) => a == b,
+            (Function::Xform(a), Function::Xform(b)) | (Function::Client(a), Function::Client(b)) =>
+                a == b,
             (Function::Version(_), Function::Xform(_) | Function::Client(_))
             | (Function::Xform(_), Function::Version(_) | Function::Client(_))
             | (Function::Client(_), Function::Version(_) | Function::Xform(_)) => false,
