@@ -3,18 +3,21 @@ use Rattle.std.proofs.Common.{◌≡◌, ◌++◌, ℕ, List, Option, Some, None
 use Rattle.c_lang.specs.Names.{Bytes}
 use Rattle.c_lang.specs.declared.program.Program.{Program}
 use Rattle.c_lang.specs.declared.refusal.Fail.{Fail}
-use Rattle.c_lang.specs.declared.unit.Unit.TheVariants.{Client}
+use Rattle.c_lang.specs.declared.unit.Unit.TheVariants.{Old, New, Xform, Client}
+use Rattle.c_grammar.specs.Written.{IsWritten}
+use Rattle.c_types.specs.Kept.{TypedProgram, IsKept}
 use Rattle.version_names.specs.Parts.{part_of}
-use Rattle.update_points.specs.Points.{all_points, points_of}
+use Rattle.update_points.specs.Points.{all_points, points_of, IsListed}
 use Rattle.update_points.specs.declared.gathering.PointAt.{PointAt}
 use Rattle.client_specs.specs.Clients.{IsClient}
 use Rattle.client_specs.specs.Kept.{ClientProgram, IsChecked}
 use Rattle.client_specs.specs.Refusals.{resolved_client}
-use Rattle.update_semantics.specs.Worlds.{IsOptionalClient, program_of_client}
+use Rattle.update_semantics.specs.Worlds.{World, IsWorld, IsOptionalClient, program_of_client, world_of}
 use Rattle.front_end.specs.Conditions.{AllHold, IsRefusedBy}
-use Rattle.front_end.specs.Worlds.{ClientText, Texts, of_client, within_limit, has_client, AreVersions, ParsesOptionalClient, IsOptionalClientOf}
-use Rattle.front_end.specs.Code.Stages.{IsOptionalSource, IsOptionalWritten, IsOptionalChecked, source_program}
+use Rattle.front_end.specs.Worlds.{ClientText, Texts, of_client, within_limit, has_client, AreVersions, ParsesXform, ParsesOptionalClient, IsOptionalClientOf, IsWorldOf}
+use Rattle.front_end.specs.Code.Stages.{IsOptionalSource, IsOptionalWritten, IsOptionalChecked, AreParts, source_program}
 use Rattle.front_end.specs.declared.worlds.ClientSource.{ClientSource}
+use Rattle.front_end.specs.declared.worlds.Parts.{Parts}
 use Rattle.front_end.proofs.PointLemmas.{same_points}
 use Rattle.front_end.proofs.WorldLemmas.{written, client_refused}
 
@@ -78,3 +81,38 @@ client_refuses listed ts first second None (Some source) f are is h = absurd is
 client_refuses listed ts first second (Some c) (Some source) f are is h =
     client_refused listed ts c first second source.program f are is.0
     (subst (λ (x : Bytes). IsChecked first second x source.program (Err f)) is.1 h)
+
+-- ---- worlds
+
+module _ (listed : Option (List ℕ)) (old new : TypedProgram) (xform : Program) (source : Option ClientSource) (parts : Parts)
+    (are : AreParts listed old.program new.program xform source parts) where
+  abbrev pub world_with : World
+  world_with = record { old_prog = old; new_prog = new; xform = parts.xform; client = parts.client; links = parts.links; points = parts.points }
+
+  pub parts_are_world : old.unit ≡ Old → IsKept old → new.unit ≡ New → IsKept new → IsWritten Xform xform → IsOptionalWritten source → IsWorld world_with
+  parts_are_world old_unit old_kept new_unit new_kept xform_written source_is = record {
+    old_unit = old_unit;
+    old_kept = old_kept;
+    new_unit = new_unit;
+    new_kept = new_kept;
+    linked = are.links;
+    transformer = record { source = xform; written = xform_written; transformer = are.xform.0; resolved = are.xform.1 };
+    client = client_is old.program new.program source parts.client source_is are.client;
+    listed = listed;
+    permitted = subst (λ (ps : List PointAt). IsListed ps listed (Ok parts.points)) (points_are old.program new.program source parts.client are.client) are.points;
+  }
+
+  pub parts_of_texts : (ts : Texts) → AreVersions ts old.program new.program → ParsesXform ts xform → IsOptionalSource ts.client source
+      → IsWorldOf listed ts (world_of world_with)
+  parts_of_texts ts versions parses is = record {
+    versions = versions;
+    source = xform;
+    parses = parses;
+    transformer = are.xform.0;
+    resolved = are.xform.1;
+    client_source = source_program source;
+    client_parses = source_parses ts.client source is;
+    client = client_of_text old.program new.program ts.client source parts.client is are.client;
+    told_apart = are.points.0;
+    points = are.points.1;
+  }

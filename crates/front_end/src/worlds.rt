@@ -73,8 +73,8 @@ struct Versions {
 /// What an update takes beside the versions.
 #[derive(Drop)]
 struct Parts {
-    points: Points,
-    links: Links,
+    points: Boxed<Points>,
+    links: Boxed<Links>,
     xform: Xform,
     client: Option<Client>,
 }
@@ -262,10 +262,11 @@ fn points_of(
     old: &Typed,
     client: &Option<ClientSource>,
     listed: Option<&[u32]>,
-) -> Result<Points, Fail>
+) -> Result<Boxed<Points>, Fail>
     ensures { IsListed (all_points old.now.program (source_program client.now)) (option_copied listed.entry) result }
 {
-    list_points(alloc, old.program(), program_in(client), listed)
+    let points = list_points(alloc, old.program(), program_in(client), listed)?;
+    Ok(Boxed::new(alloc, points)?)
 }
 
 fn client_of(
@@ -304,9 +305,9 @@ fn check_update(
 {
     let (old, new) = (versions.old.get(), versions.new.get());
     let points = points_of(alloc, old, &client, listed)?;
-    let links = link(alloc, old, new)?;
-    let xform = check_xform(alloc, old, new, &links, xform.into_inner())?;
-    let client = client_of(alloc, versions, &links, client)?;
+    let links = Boxed::new(alloc, link(alloc, old, new)?)?;
+    let xform = check_xform(alloc, old, new, links.get(), xform.into_inner())?;
+    let client = client_of(alloc, versions, links.get(), client)?;
     Ok(Parts {
         points,
         links,
@@ -344,8 +345,8 @@ fn make_world(
         new.into_inner(),
         xform,
         client,
-        links,
-        points,
+        links.into_inner(),
+        points.into_inner(),
     );
     Ok(Boxed::new(alloc, world)?)
 }

@@ -15,8 +15,8 @@ use std::alloc::{AllocError, Global};
 use update_semantics::World;
 
 /// The program that a world is merged into. It is typed as unit Merge and can be printed, and its
-/// observable prefixes, for every list of answers, are exactly those of the old version that is updated
-/// once at most, at a permitted point. The only error is want of memory.
+/// observable prefixes, for every list of answers, are exactly those of the old version, or of the client,
+/// updated once at most, at a permitted point or at the client's force. The only error is want of memory.
 pub fn merge(alloc: Global, world: &World) -> Result<Typed, AllocError>
     ensures program { IfOk result (λ merged. merged.program ≡ merged_program (world_of world.now)) }
     ensures checked { IfOk result (λ merged. IsCheckedMerge merged) }

@@ -11,8 +11,9 @@ use plain_run::RunError;
 use std::alloc::Global;
 use update_semantics::{UpdMachine, World};
 
-/// Runs the world's old program from its start with these answers, for this many steps. It is updated to
-/// the new one once at most, at a permitted point that is answered so.
+/// Makes this many steps of the world's updating run with these answers. It begins with the old version's
+/// `main`, or with the client's function, and is updated once at most, at a permitted point that is answered
+/// so, or at the client's force.
 ///
 /// `RunError::Deep` comes exactly where one of these steps makes one frame more than 10,000.
 pub fn replay_updated(

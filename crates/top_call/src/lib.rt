@@ -1,6 +1,6 @@
-//! The call of the tool `dsu`: it merges two versions of a program and a transformer into one program, which
-//! runs as the old version does until it is updated, shows the run of a merged program, and shows the updated
-//! run itself.
+//! The call of the tool `dsu`: it merges two versions of a program, a transformer and maybe a client into one
+//! program, which runs as the old version does until it is updated, shows the run of a merged program, and
+//! shows the updated run itself.
 #![tactic(auto)]
 
 mod call;

@@ -12,7 +12,7 @@ use crate::world::World;
 use plain_run::{Answers, Run, RunError, Step};
 use std::alloc::{AllocError, Global};
 
-/// A run of a world's old program, which is updated to the new one once at most. Contracts see its
+/// A run of a world's old program or of its client, which is updated to the new one once at most. Contracts see its
 /// configuration as `config_of`, and the rules of its world as `rules_in`.
 pub struct UpdMachine<'p> {
     run: Run<'p, UpdatedNames<'p>>,
