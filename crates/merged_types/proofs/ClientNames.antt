@@ -1,7 +1,6 @@
 -- What a client's names stand for in its merged code, by the place at which they stand.
 use Rattle.std.proofs.Common.{◌≡◌, Bool, true, false, if◌then◌else◌, List, [], ◌∷◌, Option, Some, None, is_some, refl, sym, ap, ap₂, ◌∙◌, subst, codes}
 use Rattle.std.specs.Option.{option_map}
-use Rattle.std.specs.Str.{bytes_eq}
 use Rattle.c_lang.specs.Names.{Bytes}
 use Rattle.c_lang.specs.Refusals as refused
 use Rattle.c_lang.specs.Programs.{func_named}
@@ -106,7 +105,7 @@ module _ (W : World) (spec : Bytes) (p : Program) (h : ClientSees W spec p) wher
           arity_as_value (kinds_of f.params) f.gives,
           (
             ap (λ (y : Bytes). found outside (function_name W origin.Client y)) itself
-            ∙ ap (λ (o : Option Func). found outside (code_name (if is_some o then (home.Client, f.name) else linked_by_prefix (code_part W.first W.second) f.name))) there ∙ is,
+                ∙ ap (λ (o : Option Func). found outside (code_name (if is_some o then (home.Client, f.name) else linked_by_prefix (code_part W.first W.second) f.name))) there ∙ is,
             tt,
           ),
         ),
