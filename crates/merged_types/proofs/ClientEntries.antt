@@ -1,6 +1,5 @@
 -- What is visible in a client, entry by entry.
-use Rattle.std.proofs.Common.{◌≡◌, ℕ, Bool, true, false, if◌then◌else◌, List, [], ◌∷◌, map, Option, Some, None, refl, ap, ◌∙◌}
-use Rattle.std.specs.Str.{bytes_eq}
+use Rattle.std.proofs.Common.{◌≡◌, ℕ, Bool, true, false, if◌then◌else◌, List, [], ◌∷◌, map, Some, None, refl, ap, ◌∙◌}
 use Rattle.c_lang.specs.Names.{Bytes}
 use Rattle.c_lang.specs.Programs.{func_named}
 use Rattle.c_lang.specs.declared.program.Func.{Func}

@@ -30,5 +30,6 @@ mod PlainWords
 mod ClientFuncs
 mod ClientEntries
 mod ClientNames
+mod ClientParts
 mod QuietPicks
 pub mod WorldTyped

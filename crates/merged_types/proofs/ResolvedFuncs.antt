@@ -1,5 +1,5 @@
 -- Functions that are typed and in resolved form: of sources, and of their plain forms.
-use Rattle.std.proofs.Common.{◌≡◌, ◌≤◌, Bool, true, false, List, length, refl, sym, ap, ◌∙◌, subst}
+use Rattle.std.proofs.Common.{◌≡◌, ◌≤◌, Bool, true, false, length, sym, ap, ◌∙◌, subst}
 use Rattle.c_lang.specs.Limits.{parameter_limit}
 use Rattle.c_lang.specs.Trees.{Statements, stmts_of}
 use Rattle.c_lang.specs.declared.program.Func.{Func}

@@ -9,7 +9,7 @@ use Rattle.c_lang.specs.declared.program.GlobalVar.{GlobalVar}
 use Rattle.c_lang.specs.declared.program.Func.{Func}
 use Rattle.c_lang.specs.declared.program.Program.{Program}
 use Rattle.c_types.specs.Names.{Entries}
-use Rattle.c_types.specs.Scopes.{Picks, names_version}
+use Rattle.c_types.specs.Scopes.{names_version}
 use Rattle.c_types.specs.Functions.{is_main, resolved_from, resolved_func}
 use Rattle.c_types.specs.Kept.{TypedProgram, IsKept}
 use Rattle.c_types.specs.Plain.{plain}
@@ -36,7 +36,6 @@ use Rattle.client_specs.specs.Clients as clients
 use Rattle.client_specs.specs.Kept.{ClientProgram, IsClientOf}
 use Rattle.client_specs.specs.Kinds.{checked_kind}
 use Rattle.client_specs.specs.Refusals.{resolved_own}
-use Rattle.client_specs.specs.Spelled.{spelled_func}
 use Rattle.client_specs.specs.Starts.{is_forcing, picks_in, forced_in, start}
 use Rattle.client_specs.specs.Visible as regions
 use Rattle.update_semantics.specs.Worlds.{World, IsWorld, world_of}
@@ -59,11 +58,9 @@ use Rattle.merged_types.proofs.SourcePrograms.{source_program}
 use Rattle.merged_types.proofs.VersionNames.{merged_outside}
 use Rattle.merged_types.proofs.TransformerNames as in_xform
 use Rattle.merged_types.proofs.TransformerNames.{main_shared, transformer_names}
-use Rattle.merged_types.proofs.PlainWords.{old_refuses, client_refuses, no_plain_global, no_plain_func}
-use Rattle.merged_types.proofs.ClientFuncs as client_own
-use Rattle.merged_types.proofs.ClientFuncs.{resolved_new, spec_found}
-use Rattle.merged_types.proofs.ClientNames as in_client
-use Rattle.merged_types.proofs.ClientNames.{client_names, main_there}
+use Rattle.merged_types.proofs.PlainWords.{old_refuses, no_plain_global, no_plain_func}
+use Rattle.merged_types.proofs.ClientNames.{ClientSees, client_names}
+use Rattle.merged_types.proofs.ClientParts.{client_sees, client_new, client_no_main, client_spec}
 use Rattle.merged_types.proofs.QuietPicks.{IsQuiet, written_quiet}
 use Rattle.merged_types.proofs.MergedTyped.{IsResolvedTransformer, IsClientFunc, IsResolvedClient, IsOptionalClient, merged_is_typed, merged_is_resolved}
 
@@ -188,16 +185,8 @@ module _ (w : World) (h : IsWorld w) where
     funcs_are : c.program.funcs ≡ resolved_own parts old new text c.spec text.funcs
     funcs_are = ap (λ (p : Program). p.funcs) made.resolved
 
-    client_sees : in_client.ClientSees W c.spec text
-    client_sees = record {
-      first = first;
-      second = second;
-      plain_codes = plain_codes;
-      plain_own = no_plain_func unit.Client client_refuses text.funcs (words unit.Client text made.written).funcs;
-      globals = made.client.globals;
-      own = made.client.funcs;
-      resolved = ap funcs_of_client is ∙ funcs_are;
-    }
+    abbrev sees_client : ClientSees W c.spec text
+    sees_client = client_sees W c is made first second plain_codes
 
     abbrev names : Renaming
     names = R W.permits (variable_name W) (function_name W) origin.Client (merged_naming W origin.Client) parts
@@ -209,17 +198,17 @@ module _ (w : World) (h : IsWorld w) where
     seen_in r = regions.visible parts r old new text
 
     sees_behind : (b : Bool) → SeesBehind names (if b then Some (seen_in Behind) else None) outside
-    sees_behind true = client_names W c.spec text client_sees Behind
+    sees_behind true = client_names W c.spec text sees_client Behind
     sees_behind false = tt
 
     sees_picks : (k : ClientKind) → SeesPicks names (picks_in k (seen_in After) (seen_in Before)) outside
     sees_picks Backward = tt
     sees_picks Post = tt
-    sees_picks Conform = (client_names W c.spec text client_sees After, client_names W c.spec text client_sees Before)
+    sees_picks Conform = (client_names W c.spec text sees_client After, client_names W c.spec text sees_client Before)
 
     all_seen : (x : Bytes) → IsSeen names Here (seen_in Here) (forced_in parts old new text c.spec x) (picks_in (checked_kind c.spec) (seen_in After) (seen_in Before)) outside
     all_seen x = record {
-      here = client_names W c.spec text client_sees Here;
+      here = client_names W c.spec text sees_client Here;
       behind = sees_behind (is_forcing (checked_kind c.spec) c.spec x);
       picks = sees_picks (checked_kind c.spec);
     }
@@ -240,20 +229,18 @@ module _ (w : World) (h : IsWorld w) where
       client_funcs (with_func known f) fs k.2 quiet.1 apart.1,
     )
 
-    client_by_source : client_own.HasSpec c.spec (resolved_own parts old new text c.spec text.funcs) → IsResolvedClient W c
-    client_by_source entry = record {
-      new = subst (λ (fs : List Func). AreNew [] fs) (sym funcs_are)
-          (resolved_new parts old new text c.spec [] text.funcs (client_own.own_new parts old new text c.spec [] text.funcs made.client.funcs));
-      funcs = subst (λ (fs : List Func). Each (IsClientFunc W) fs) (sym funcs_are)
-          (client_funcs [] text.funcs made.client.funcs (written_quiet unit.Client text made.written)
-          (client_own.no_main parts old new text c.spec v.Old sort.Code (main_there W c.spec text client_sees) [] text.funcs made.client.funcs));
-      entry = entry.func;
-      named = ap (λ (fs : List Func). func_named fs c.spec) funcs_are ∙ entry.named;
-      empty = entry.params;
-    }
-
     resolved_client : IsResolvedClient W c
-    resolved_client = client_by_source (spec_found parts old new text c.spec text.funcs made.client.named)
+    resolved_client =
+        let entry = client_spec W c is made first second plain_codes in
+        record {
+          new = client_new W c is made first second plain_codes;
+          funcs = subst (λ (fs : List Func). Each (IsClientFunc W) fs) (sym funcs_are)
+              (client_funcs [] text.funcs made.client.funcs (written_quiet unit.Client text made.written)
+              (subst (λ (fs : List Func). Each (λ (f : Func). is_main f.name ≡ false) fs) funcs_are (client_no_main W c is made first second plain_codes)));
+          entry = entry.func;
+          named = entry.named;
+          empty = entry.params;
+        }
 
   client_by : (o : Option ClientProgram) → w.client ≡ o → given.IsOptionalClient old new o → IsOptionalClient W o
   client_by None is k = tt
