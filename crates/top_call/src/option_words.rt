@@ -1,6 +1,6 @@
 //! Options in words, which stand in any order among the files.
 
-ghost use Rattle.std.specs.Prelude.{◌≡◌, List, [], None, IfOk, OnOk, map, option_map, string_bytes};
+ghost use Rattle.std.specs.Prelude.{◌≡◌, List, [], None, Some, IfOk, OnOk, map, option_map, string_bytes};
 ghost use Rattle.std.specs.Option.{option_copied};
 ghost use Rattle.c_lang.specs.Names.{behind};
 ghost use Rattle.top_call.specs.Numbers as numbers;
@@ -85,7 +85,7 @@ pub(crate) fn files_in<'a>(alloc: Global, words: &'a [String]) -> Result<Vec<&'a
 }
 
 // The name of a client's function that the words give, if they do; `None` where they give several.
-fn spec_given<'a>(words: &'a [String]) -> Option<Option<&'a str>>
+fn function_given<'a>(words: &'a [String]) -> Option<Option<&'a str>>
     ensures { option_map seen_spec result ≡ spec.option_value spec.named None (spec.chosen (behind spec.spec_name) (map string_bytes words.entry.now)) }
 {
     match values_of(words, SPEC) {
@@ -95,24 +95,44 @@ fn spec_given<'a>(words: &'a [String]) -> Option<Option<&'a str>>
     }
 }
 
-// Three files, or four where the name of a client's function is given.
-fn update_files<'a>(files: &[&'a str], spec: Option<&'a str>) -> Option<UpdateFiles<'a>>
-    ensures { option_map seen_update_files result ≡ spec.update_files (map seen_text files.now) (option_map seen_text spec.entry) }
+fn three_files<'a>(files: &[&'a str]) -> Option<UpdateFiles<'a>>
+    ensures { option_map seen_update_files result ≡ spec.update_files (map seen_text files.now) None }
 {
-    match (files, spec) {
-        ([old, new, xform], None) => Some(UpdateFiles {
+    match files {
+        [old, new, xform] => Some(UpdateFiles {
             old,
             new,
             xform,
             client: None,
         }),
-        ([old, new, xform, file], Some(spec)) => Some(UpdateFiles {
+        _ => None,
+    }
+}
+
+fn four_files<'a>(files: &[&'a str], function: &'a str) -> Option<UpdateFiles<'a>>
+    ensures { option_map seen_update_files result ≡ spec.update_files (map seen_text files.now) (Some function.entry.now) }
+{
+    match files {
+        [old, new, xform, file] => Some(UpdateFiles {
             old,
             new,
             xform,
-            client: Some(ClientFile { file, spec }),
+            client: Some(ClientFile {
+                file,
+                spec: function,
+            }),
         }),
         _ => None,
+    }
+}
+
+// Three files, or four where the name of a client's function is given.
+fn update_files<'a>(files: &[&'a str], function: Option<&'a str>) -> Option<UpdateFiles<'a>>
+    ensures { option_map seen_update_files result ≡ spec.update_files (map seen_text files.now) (option_map seen_text function.entry) }
+{
+    match function {
+        Some(function) => four_files(files, function),
+        None => three_files(files),
     }
 }
 
@@ -124,11 +144,11 @@ pub(crate) fn update_files_in<'a>(
 ) -> Result<Option<UpdateFiles<'a>>, AllocError>
     ensures { IfOk result (λ files. option_map seen_update_files files ≡ spec.files_of (map string_bytes words.entry.now)) }
 {
-    let Some(spec) = spec_given(words) else {
+    let Some(function) = function_given(words) else {
         return Ok(None);
     };
     let files = files_in(alloc, words)?;
-    Ok(update_files(files.as_slice(), spec))
+    Ok(update_files(files.as_slice(), function))
 }
 
 /// Whether the word is a file or an option of a merge.

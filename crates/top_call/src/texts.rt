@@ -1,6 +1,6 @@
 //! The texts of an update.
 
-ghost use Rattle.std.specs.Prelude.{◌≡◌, IfOk, IsErrOf};
+ghost use Rattle.std.specs.Prelude.{◌≡◌, IfOk, IsErrOf, option_map};
 ghost use Rattle.front_end.specs.Seen as front;
 ghost use Rattle.top_call.specs.Held.{HasReadCause};
 ghost use Rattle.top_call.specs.Merge.{AreHeld, IsHeldClient, client_names, names_of};
