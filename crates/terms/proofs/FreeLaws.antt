@@ -8,8 +8,7 @@ use Rattle.terms.specs.Symbols.{same_sym}
 use Rattle.terms.specs.Trees.{FormTree}
 use Rattle.terms.specs.Names.{Occurrence, symbol, form_names, with_name, with_names, first_occurrences, distinct_names}
 use Rattle.terms.proofs.Choices.{by_bool}
-use Rattle.terms.proofs.SymbolLaws.{same_sym-equal}
-use Rattle.terms.proofs.TreeLemmas.{tree_levels}
+use Rattle.terms.specs.Code.SymbolLaws.{same_sym-equal}
 
 pub with_names-nil : (names : List Sym) → with_names names [] ≡ names
 unfolding with_names
@@ -24,7 +23,7 @@ unfolding with_names
 with_names-append names [] ps = refl
 with_names-append names (o ∷ os) ps = with_names-append (with_name names (symbol o)) os ps
 
-pub ruleset adding = (tree_levels, with_names-nil, with_names-one, with_names-append)
+pub ruleset adding = (with_names-nil, with_names-one, with_names-append)
 
 -- ---- the gathered list is the definition's
 

@@ -3,8 +3,10 @@ use Rattle.std.proofs.Common.{◌≡◌, ℤ, Bool, true, false, not, ◌&&◌, 
 use Rattle.std.specs.Ordering.{int_eq}
 use Rattle.std.proofs.lemmas.List.Elements.{All-nil, All-cons, All-head, All-tail}
 use Rattle.terms.specs.declared.sym.Sym.{Sym}
+use Rattle.terms.specs.declared.fact.Fact.{Fact}
+use Rattle.terms.specs.declared.fact.Fact.TheVariants as fact
 use Rattle.terms.specs.Symbols.{same_sym}
-use Rattle.terms.specs.Trees.{TermTree, number, name, plus, minus, times, divided, remainder, read, truth, ArrayTree, array, stored, FormTree, always, never, at_most, equal, denied, both, either, FactTree, plain, all}
+use Rattle.terms.specs.Trees.{TermTree, number, name, plus, minus, times, divided, remainder, read, truth, ArrayTree, array, stored, FormTree, always, never, at_most, equal, denied, both, either}
 use Rattle.terms.specs.Names.{Occurrence, as_number, as_array, term_names, array_names, form_names, fact_names, is_number}
 use Rattle.terms.specs.Truth.{Interpretation, with_value, quotient_of, remainder_of, number_of, term_at, array_at, form_at, FactAt, AgreesAt}
 use Rattle.terms.proofs.Choices.{by_bool, All-left, All-right}
@@ -67,9 +69,9 @@ All-but test P Q go (x ∷ xs) h = All-cons Q x xs
     (λ e. All-tail P x (filter (λ y. not (test y)) xs) (subst (λ b. All P (cond (not b) (x ∷ filter (λ y. not (test y)) xs) (filter (λ y. not (test y)) xs))) e h))))
 
 -- where two interpretations agree on the free names of a fact, it is true at both or at neither
-pub FactAt-agree : (v w : Interpretation) (f : FactTree) → All (AgreesAt v w) (fact_names f) → FactAt v f → FactAt w f
-FactAt-agree v w (plain f) h true_at_v = subst IsTrue (form_at-agree v w f h) true_at_v
-FactAt-agree v w (all x lo hi f) h true_at_v = λ n from to.
+pub FactAt-agree : (v w : Interpretation) (f : Fact) → All (AgreesAt v w) (fact_names f) → FactAt v f → FactAt w f
+FactAt-agree v w (fact.Plain f) h true_at_v = subst IsTrue (form_at-agree v w f h) true_at_v
+FactAt-agree v w (fact.All x lo hi f) h true_at_v = λ n from to.
     let rest : All (AgreesAt v w) (term_names hi ++ filter (λ o. not (is_number x o)) (form_names f)) =
     All-right (AgreesAt v w) (term_names lo) (term_names hi ++ filter (λ o. not (is_number x o)) (form_names f)) h in
     let in_body : All (AgreesAt (with_value v x n) (with_value w x n)) (form_names f) =

@@ -7,15 +7,11 @@ use Rattle.std.proofs.lemmas.List.Folds.{list_all-append}
 use Rattle.terms.specs.declared.sym.Sym.{Sym}
 use Rattle.terms.specs.declared.valuation.Valuation.{Valuation}
 use Rattle.terms.specs.declared.evaluate.Operation.TheVariants as operation
-use Rattle.terms.specs.Trees.{TermTree, number, name, plus, minus, times, divided, remainder, read, truth, ArrayTree, array, stored, FormTree, always, never, at_most, equal, denied, both, either, term_tree, array_tree}
+use Rattle.terms.specs.Trees.{TermTree, number, name, plus, minus, times, divided, remainder, read, truth, ArrayTree, array, stored, FormTree, always, never, at_most, equal, denied, both, either}
 use Rattle.terms.specs.Names.{Occurrence, term_names, array_names, form_names, terms_in_term, terms_in_array, terms_in_form}
 use Rattle.terms.specs.Truth.{number_of, term_at, array_at, form_at}
 use Rattle.terms.specs.Valuations.{listed_number, listed_row, element_in, interpretation_of, is_listed, is_small, kept, can_evaluate, term_value, element_value, form_value}
 use Rattle.terms.specs.Code.Operations.{worth, written}
-use Rattle.terms.proofs.TreeLemmas.{tree_levels, array_tree-Store}
-use Rattle.terms.specs.declared.form.Term.{Term}
-use Rattle.terms.specs.declared.form.ArrayTerm.{ArrayTerm}
-use Rattle.terms.specs.declared.form.ArrayTerm.TheVariants as row
 
 -- a value that is there or not
 abbrev pub answer : {A : Type 0} → Bool → A → Option A
@@ -225,14 +221,12 @@ module _ (v : Valuation) where
       ap (λ b. answer b (form_at (interpretation_of v) (either f g))) (both_parts v (form_names f) (form_names g) (terms_in_form f) (terms_in_form g))
       ∙ joined_answer (λ p q. p || q) (can_evaluate v (form_names f) (terms_in_form f)) (can_evaluate v (form_names g) (terms_in_form g)) (form_at (interpretation_of v) f) (form_at (interpretation_of v) g)
 
-pub stored_value : (v : Valuation) (whole a : ArrayTerm) (i t : Term) (k before index value : ℤ) → whole ≡ row.Store a i t
-    → Some before ≡ element_value v (array_tree a) k → Some index ≡ term_value v (term_tree i) → Some value ≡ term_value v (term_tree t)
-    → Some (written k before index value) ≡ element_value v (array_tree whole) k
-stored_value v whole a i t k before index value is e f g =
-    (λ j. option_and_then (λ z. joined (λ p q. Some (written k z p q)) (f j) (g j)) (e j))
-    ∙ sym (element_value-stored v (array_tree a) (term_tree i) (term_tree t) k)
-    ∙ ap (λ r. element_value v r k) (sym (ap array_tree is ∙ array_tree-Store a i t))
-
 pub ruleset values = (term_value-number, term_value-name, term_value-plus, term_value-minus, term_value-times, term_value-divided, term_value-remainder, term_value-read, term_value-truth, element_value-array, element_value-stored, form_value-always, form_value-never, form_value-at_most, form_value-equal, form_value-denied, form_value-both, form_value-either)
 
-pub ruleset at_trees = (tree_levels, values)
+pub stored_value : (v : Valuation) (whole a : ArrayTree) (i t : TermTree) (k before index value : ℤ) → stored a i t ≡ whole
+    → Some before ≡ element_value v a k → Some index ≡ term_value v i → Some value ≡ term_value v t
+    → Some (written k before index value) ≡ element_value v whole k
+stored_value v whole a i t k before index value is e f g =
+    (λ j. option_and_then (λ z. joined (λ p q. Some (written k z p q)) (f j) (g j)) (e j))
+    ∙ sym (element_value-stored v a i t k)
+    ∙ ap (λ r. element_value v r k) is

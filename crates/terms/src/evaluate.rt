@@ -1,11 +1,10 @@
 ghost use Rattle.std.specs.Prelude.{◌≡◌, pos, ◌+ℤ◌, ◌-ℤ◌, ◌*ℤ◌};
-ghost use Rattle.terms.specs.Trees.{term_tree, array_tree, form_tree};
 ghost use Rattle.terms.specs.Truth.{quotient_of, remainder_of, number_of};
 ghost use Rattle.terms.specs.Valuations.{kept, term_value, element_value, form_value};
 ghost use Rattle.terms.specs.Code.Operations.{worth, written};
 
 use crate::valuation::element_of;
-use crate::{ArrayTerm, Form, Term, Valuation};
+use crate::{ArrayRef, ArrayView, Form, FormRef, FormView, TermRef, TermView, Valuation};
 
 /// An operation on two numbers.
 #[derive(Clone, Copy)]
@@ -92,38 +91,38 @@ fn number(truth: bool) -> i128
 }
 
 #[cycle(evaluating)]
-#[tactic(auto, using(crate::proofs::ValueLaws::at_trees))]
-fn value(term: &Term, at: &Valuation) -> Option<i128>
-    ensures { result ≡ term_value at.now (term_tree term.now) }
+#[tactic(auto, using(crate::proofs::ValueLaws::values))]
+fn value(term: &TermRef, at: &Valuation) -> Option<i128>
+    ensures { result ≡ term_value at.now term.now }
 {
-    match term {
-        Term::Num(number) => small(*number),
-        Term::Of(name) => small(at.number(name)?),
-        Term::Add(left, right) => Operation::Sum.apply(
-            value(left.get(), at)?,
-            value(right.get(), at)?,
+    match term.view() {
+        TermView::Num(number) => small(number),
+        TermView::Of(name) => small(at.number(name)?),
+        TermView::Add(left, right) => Operation::Sum.apply(
+            value(&left, at)?,
+            value(&right, at)?,
         ),
-        Term::Sub(left, right) => Operation::Difference.apply(
-            value(left.get(), at)?,
-            value(right.get(), at)?,
+        TermView::Sub(left, right) => Operation::Difference.apply(
+            value(&left, at)?,
+            value(&right, at)?,
         ),
-        Term::Mul(left, right) => Operation::Product.apply(
-            value(left.get(), at)?,
-            value(right.get(), at)?,
+        TermView::Mul(left, right) => Operation::Product.apply(
+            value(&left, at)?,
+            value(&right, at)?,
         ),
-        Term::Div(left, right) => Operation::Quotient.apply(
-            value(left.get(), at)?,
-            value(right.get(), at)?,
+        TermView::Div(left, right) => Operation::Quotient.apply(
+            value(&left, at)?,
+            value(&right, at)?,
         ),
-        Term::Rem(left, right) => Operation::Remainder.apply(
-            value(left.get(), at)?,
-            value(right.get(), at)?,
+        TermView::Rem(left, right) => Operation::Remainder.apply(
+            value(&left, at)?,
+            value(&right, at)?,
         ),
-        Term::Read(array, index) => {
-            let index = value(index.get(), at)?;
-            small(element(array.get(), index, at)?)
+        TermView::Read(array, index) => {
+            let index = value(&index, at)?;
+            small(element(&array, index, at)?)
         }
-        Term::Truth(form) => Some(number(truth(form.get(), at)?)),
+        TermView::Truth(form) => Some(number(truth(&form, at)?)),
     }
 }
 
@@ -137,40 +136,40 @@ fn written(index: i128, before: i128, place: i128, value: i128) -> i128
 
 // What the array holds at the index.
 #[cycle(evaluating)]
-#[tactic(auto, using(crate::proofs::ValueLaws::at_trees))]
-fn element(array: &ArrayTerm, index: i128, at: &Valuation) -> Option<i128>
-    ensures { result ≡ element_value at.now (array_tree array.now) index }
+#[tactic(auto, using(crate::proofs::ValueLaws::values))]
+fn element(array: &ArrayRef, index: i128, at: &Valuation) -> Option<i128>
+    ensures { result ≡ element_value at.now array.now index }
 {
-    match array {
-        ArrayTerm::Base(name) => Some(element_of(at.row(name)?, index)),
-        ArrayTerm::Store(inner, place, stored) => {
-            let before = element(inner.get(), index, at)?;
-            let place = value(place.get(), at)?;
-            let stored = value(stored.get(), at)?;
+    match array.view() {
+        ArrayView::Base(name) => Some(element_of(at.row(name)?, index)),
+        ArrayView::Store(inner, place, stored) => {
+            let before = element(&inner, index, at)?;
+            let place = value(&place, at)?;
+            let stored = value(&stored, at)?;
             Some(written(index, before, place, stored))
         }
     }
 }
 
 #[cycle(evaluating)]
-#[tactic(auto, using(crate::proofs::ValueLaws::at_trees))]
-fn truth(form: &Form, at: &Valuation) -> Option<bool>
-    ensures { result ≡ form_value at.now (form_tree form.now) }
+#[tactic(auto, using(crate::proofs::ValueLaws::values))]
+fn truth(form: &FormRef, at: &Valuation) -> Option<bool>
+    ensures { result ≡ form_value at.now form.now }
 {
-    match form {
-        Form::True => Some(true),
-        Form::False => Some(false),
-        Form::Le(left, right) => Some(value(left, at)? <= value(right, at)?),
-        Form::Eq(left, right) => Some(value(left, at)? == value(right, at)?),
-        Form::Not(inner) => Some(!truth(inner.get(), at)?),
-        Form::And(left, right) => {
-            let left = truth(left.get(), at)?;
-            let right = truth(right.get(), at)?;
+    match form.view() {
+        FormView::True => Some(true),
+        FormView::False => Some(false),
+        FormView::Le(left, right) => Some(value(&left, at)? <= value(&right, at)?),
+        FormView::Eq(left, right) => Some(value(&left, at)? == value(&right, at)?),
+        FormView::Not(inner) => Some(!truth(&inner, at)?),
+        FormView::And(left, right) => {
+            let left = truth(&left, at)?;
+            let right = truth(&right, at)?;
             Some(left && right)
         }
-        Form::Or(left, right) => {
-            let left = truth(left.get(), at)?;
-            let right = truth(right.get(), at)?;
+        FormView::Or(left, right) => {
+            let left = truth(&left, at)?;
+            let right = truth(&right, at)?;
             Some(left || right)
         }
     }
@@ -181,7 +180,7 @@ fn truth(form: &Form, at: &Valuation) -> Option<bool>
 /// form is worth more than 2^100 or less than -2^100. Every term counts, also one that could not
 /// change the answer. It takes no memory.
 pub fn holds_at(form: &Form, at: &Valuation) -> Option<bool>
-    ensures { result ≡ form_value at.now (form_tree form.now) }
+    ensures { result ≡ form_value at.now form.now }
 {
-    truth(form, at)
+    truth(&form.as_ref(), at)
 }

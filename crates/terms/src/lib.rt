@@ -3,17 +3,23 @@
 #![tactic(auto)]
 
 mod build;
+pub mod changes;
 mod copy;
+mod evaluate;
 pub mod fact;
 pub mod form;
+pub mod laws;
 pub mod node;
 pub mod part;
+mod replace;
 mod same;
 pub mod sequent;
 pub mod sym;
 pub mod valuation;
 pub mod view;
 
+pub use changes::Changes;
+pub use evaluate::holds_at;
 pub use fact::Fact;
 pub use form::{ArrayTerm, Form, Term};
 pub use node::{Node, NodeKind};

@@ -1,273 +1,202 @@
-ghost use Rattle.std.specs.Prelude.{◌≡◌, ◌↔◌, false, IfOk, IsTrue};
+ghost use Rattle.std.specs.Prelude.{◌≡◌, ◌↔◌, ◌<◌, ◌^◌, ◌++◌, [], ◌∷◌, false, IfOk, OnOk, unwrap_or};
+ghost use Rattle.terms.specs.Symbols.{same_sym};
+ghost use Rattle.terms.specs.Trees.{name, array};
+ghost use Rattle.std.specs.Option.{option_copied, option_map};
+ghost use Rattle.terms.specs.Nodes.{node, term_nodes, array_nodes};
 ghost use Rattle.terms.specs.Names.{term_names, array_names, captures};
-ghost use Rattle.terms.specs.Trees.{term_tree, array_tree, form_tree, fact_tree};
 ghost use Rattle.terms.specs.Truth.{Interpretation, with_value, with_array, term_at, array_at, form_at, FactAt};
-ghost use Rattle.terms.specs.Replacing.{number_by, array_by, replaced_term, replaced_array, replaced_form, below, replaced_fact};
-ghost use Rattle.terms.specs.Code.Replacement.{change_of};
+ghost use Rattle.terms.specs.Replacing.{number_by, array_by, change_in, replaced_term, replaced_array, replaced_form, below, replaced_fact, changed, Avoids};
+ghost use Rattle.terms.specs.Code.Operands.{end_size};
+ghost use Rattle.terms.specs.Code.Rewriting.{change_of, is_bound, change_below, operands_size, put_operator, put_node, put_nodes};
 
-use crate::{ArrayTerm, Fact, Form, Sym, Term};
-use sqlite_items::Boxed;
+use crate::build::put_copies;
+use crate::node::{Node, NodeKind};
+use crate::part::{apart, end_size};
+use crate::{ArrayTerm, Changes, Fact, Form, Sym, Term};
 use std::alloc::{AllocError, Global};
 
-/// A name and what stands in for it.
+/// A name and what stands in for it, or many at once.
 #[derive(Clone, Copy)]
 pub(crate) enum Replacement<'a> {
     Number(&'a Sym, &'a Term),
     Array(&'a Sym, &'a ArrayTerm),
+    Many(&'a Changes),
 }
 
-#[cycle(replacing)]
-fn boxed_term(
-    alloc: Global,
-    term: &Boxed<Term>,
-    by: &Replacement,
-) -> Result<Boxed<Term>, AllocError>
-    ensures { IfOk result (λ made.
-        term_tree made ≡ replaced_term (change_of by.now) (term_tree term.now)) }
+// The size of the operands that an operator of this kind finds at the end of the nodes.
+#[tactic(auto, unfolding(crate::specs::Code::Rewriting::operands_size))]
+fn operands_size(kind: &NodeKind, nodes: &[Node]) -> usize
+    ensures size { result ≡ operands_size kind.now nodes.now }
+    ensures small { result < 2 ^ 34 }
 {
-    Boxed::new(alloc, replaced_in_term(alloc, term.get(), by)?)
-}
-
-#[cycle(replacing)]
-#[tactic(auto, using(crate::proofs::TreeLemmas::tree_levels))]
-fn replaced_in_term(alloc: Global, term: &Term, by: &Replacement) -> Result<Term, AllocError>
-    ensures { IfOk result (λ made.
-        term_tree made ≡ replaced_term (change_of by.now) (term_tree term.now)) }
-{
-    match term {
-        Term::Num(number) => Ok(Term::Num(*number)),
-        Term::Of(name) => number_for(alloc, name, by),
-        Term::Add(left, right) => Ok(Term::Add(
-            boxed_term(alloc, left, by)?,
-            boxed_term(alloc, right, by)?,
-        )),
-        Term::Sub(left, right) => Ok(Term::Sub(
-            boxed_term(alloc, left, by)?,
-            boxed_term(alloc, right, by)?,
-        )),
-        Term::Mul(left, right) => Ok(Term::Mul(
-            boxed_term(alloc, left, by)?,
-            boxed_term(alloc, right, by)?,
-        )),
-        Term::Div(left, right) => Ok(Term::Div(
-            boxed_term(alloc, left, by)?,
-            boxed_term(alloc, right, by)?,
-        )),
-        Term::Rem(left, right) => Ok(Term::Rem(
-            boxed_term(alloc, left, by)?,
-            boxed_term(alloc, right, by)?,
-        )),
-        Term::Read(array, index) => Ok(Term::Read(
-            boxed_array(alloc, array, by)?,
-            boxed_term(alloc, index, by)?,
-        )),
-        Term::Truth(form) => Ok(Term::Truth(boxed_form(alloc, form, by)?)),
-    }
-}
-
-#[cycle(replacing)]
-fn boxed_array(
-    alloc: Global,
-    array: &Boxed<ArrayTerm>,
-    by: &Replacement,
-) -> Result<Boxed<ArrayTerm>, AllocError>
-    ensures { IfOk result (λ made.
-        array_tree made ≡ replaced_array (change_of by.now) (array_tree array.now)) }
-{
-    Boxed::new(alloc, replaced_in_array(alloc, array.get(), by)?)
-}
-
-#[cycle(replacing)]
-#[tactic(auto, using(crate::proofs::TreeLemmas::tree_levels))]
-fn replaced_in_array(
-    alloc: Global,
-    array: &ArrayTerm,
-    by: &Replacement,
-) -> Result<ArrayTerm, AllocError>
-    ensures { IfOk result (λ made.
-        array_tree made ≡ replaced_array (change_of by.now) (array_tree array.now)) }
-{
-    match array {
-        ArrayTerm::Base(name) => array_for(alloc, name, by),
-        ArrayTerm::Store(inner, index, value) => {
-            let inner = boxed_array(alloc, inner, by)?;
-            Ok(ArrayTerm::Store(
-                inner,
-                boxed_term(alloc, index, by)?,
-                boxed_term(alloc, value, by)?,
-            ))
+    match kind {
+        NodeKind::Num(_) | NodeKind::Of(_) | NodeKind::Base(_) | NodeKind::True | NodeKind::False => 0,
+        NodeKind::Truth | NodeKind::Not => end_size(nodes),
+        NodeKind::Store => {
+            let (front, _) = apart(nodes);
+            let (first, _) = apart(front);
+            end_size(first) + (end_size(front) + end_size(nodes))
+        }
+        NodeKind::Add
+        | NodeKind::Sub
+        | NodeKind::Mul
+        | NodeKind::Div
+        | NodeKind::Rem
+        | NodeKind::Read
+        | NodeKind::Le
+        | NodeKind::Eq
+        | NodeKind::And
+        | NodeKind::Or => {
+            let (front, _) = apart(nodes);
+            end_size(front) + end_size(nodes)
         }
     }
 }
 
-#[cycle(replacing)]
-fn boxed_form(
-    alloc: Global,
-    form: &Boxed<Form>,
-    by: &Replacement,
-) -> Result<Boxed<Form>, AllocError>
-    ensures { IfOk result (λ made.
-        form_tree made ≡ replaced_form (change_of by.now) (form_tree form.now)) }
+// Puts an operator behind its operands.
+#[tactic(auto, unfolding(crate::specs::Code::Rewriting::put_operator))]
+fn put_operator(out: &mut Vec<Node>, kind: NodeKind) -> Result<(), AllocError>
+    ensures { OnOk result (out.new.items ≡ put_operator out.old.items kind) }
 {
-    Boxed::new(alloc, replaced_in_form(alloc, form.get(), by)?)
+    let Ok(size) = u32::try_from(1 + operands_size(&kind, out.as_slice())) else {
+        return Err(AllocError);
+    };
+    out.push(Node { kind, size })?;
+    Ok(())
 }
 
-#[cycle(replacing)]
-#[tactic(auto, using(crate::proofs::TreeLemmas::tree_levels))]
-fn replaced_in_form(alloc: Global, form: &Form, by: &Replacement) -> Result<Form, AllocError>
-    ensures { IfOk result (λ made.
-        form_tree made ≡ replaced_form (change_of by.now) (form_tree form.now)) }
-{
-    match form {
-        Form::True => Ok(Form::True),
-        Form::False => Ok(Form::False),
-        Form::Le(left, right) => {
-            let left = Boxed::new(alloc, replaced_in_term(alloc, left, by)?)?;
-            let right = Boxed::new(alloc, replaced_in_term(alloc, right, by)?)?;
-            Ok(Form::Le(left.into_inner(), right.into_inner()))
-        }
-        Form::Eq(left, right) => {
-            let left = Boxed::new(alloc, replaced_in_term(alloc, left, by)?)?;
-            let right = Boxed::new(alloc, replaced_in_term(alloc, right, by)?)?;
-            Ok(Form::Eq(left.into_inner(), right.into_inner()))
-        }
-        Form::Not(inner) => Ok(Form::Not(boxed_form(alloc, inner, by)?)),
-        Form::And(left, right) => Ok(Form::And(
-            boxed_form(alloc, left, by)?,
-            boxed_form(alloc, right, by)?,
-        )),
-        Form::Or(left, right) => Ok(Form::Or(
-            boxed_form(alloc, left, by)?,
-            boxed_form(alloc, right, by)?,
-        )),
-    }
-}
-
-// What stands in for a name that stands as a number.
-#[tactic(auto, using(crate::proofs::TreeLemmas::tree_levels))]
-fn number_for(alloc: Global, name: &Sym, by: &Replacement) -> Result<Term, AllocError>
-    ensures { IfOk result (λ made. term_tree made ≡ (change_of by.now).number name.now) }
-{
-    if let Replacement::Number(replaced, term) = by {
-        if *replaced == name {
-            return term.copy(alloc);
-        }
-    }
-    Ok(Term::Of(name.copy(alloc)?))
-}
-
-// What stands in for a name that stands as an array.
-#[tactic(auto, using(crate::proofs::TreeLemmas::tree_levels))]
-fn array_for(alloc: Global, name: &Sym, by: &Replacement) -> Result<ArrayTerm, AllocError>
-    ensures { IfOk result (λ made. array_tree made ≡ (change_of by.now).array name.now) }
-{
-    if let Replacement::Array(replaced, array) = by {
-        if *replaced == name {
-            return array.copy(alloc);
-        }
-    }
-    Ok(ArrayTerm::Base(name.copy(alloc)?))
-}
-
-// The body below the bound name `var`, which stays where it is the replaced one.
-fn replaced_below(
-    alloc: Global,
-    var: &Sym,
-    body: &Form,
-    by: &Replacement,
-) -> Result<Form, AllocError>
-    ensures { IfOk result (λ made.
-        form_tree made ≡ replaced_form (below var.now (change_of by.now)) (form_tree body.now)) }
+// What stands in for a name as a number, if something does.
+fn number_for<'a>(by: &Replacement<'a>, symbol: &Sym) -> Option<&'a Term>
+    ensures { unwrap_or (option_copied result) (name symbol.now) ≡ (change_of by.now).number symbol.now }
 {
     match by {
-        Replacement::Number(replaced, _) => {
-            if *replaced == var {
-                body.copy(alloc)
+        Replacement::Number(replaced, term) => {
+            if *replaced == symbol {
+                Some(term)
             } else {
-                replaced_in_form(alloc, body, by)
+                None
             }
         }
-        Replacement::Array(_, _) => replaced_in_form(alloc, body, by),
+        Replacement::Array(_, _) => None,
+        Replacement::Many(changes) => changes.number(symbol),
     }
 }
 
-fn replaced_in_fact(alloc: Global, fact: &Fact, by: &Replacement) -> Result<Fact, AllocError>
-    ensures { IfOk result (λ made.
-        fact_tree made ≡ replaced_fact (change_of by.now) (fact_tree fact.now)) }
+// What stands in for a name as an array, if something does.
+fn array_for<'a>(by: &Replacement<'a>, symbol: &Sym) -> Option<&'a ArrayTerm>
+    ensures { unwrap_or (option_copied result) (array symbol.now) ≡ (change_of by.now).array symbol.now }
 {
-    match fact {
-        Fact::Plain(form) => Ok(Fact::Plain(replaced_in_form(alloc, form, by)?)),
-        Fact::All { var, lo, hi, body } => {
-            let lo = Boxed::new(alloc, replaced_in_term(alloc, lo, by)?)?;
-            let hi = Boxed::new(alloc, replaced_in_term(alloc, hi, by)?)?;
-            let body = Boxed::new(alloc, replaced_below(alloc, var, body, by)?)?;
-            Ok(Fact::All {
-                var: var.copy(alloc)?,
-                lo: lo.into_inner(),
-                hi: hi.into_inner(),
-                body: body.into_inner(),
-            })
+    match by {
+        Replacement::Number(_, _) => None,
+        Replacement::Array(replaced, array) => {
+            if *replaced == symbol {
+                Some(array)
+            } else {
+                None
+            }
         }
+        Replacement::Many(changes) => changes.array(symbol),
     }
 }
 
-/// The form with `by` wherever `name` stands as a number. It is true exactly where `form` is true
-/// of what `by` is worth for `name`.
-pub fn subst(alloc: Global, form: &Form, name: &Sym, by: &Term) -> Result<Form, AllocError>
-    ensures replaced { IfOk result (λ made.
-        form_tree made
-        ≡ replaced_form (number_by name.now (term_tree by.now)) (form_tree form.now)) }
-    ensures truth { IfOk result (λ made. (v : Interpretation) →
-        form_at v (form_tree made)
-        ≡ form_at (with_value v name.now (term_at v (term_tree by.now))) (form_tree form.now)) }
+// Whether the name is the bound one.
+fn is_bound(bound: Option<&Sym>, symbol: &Sym) -> bool
+    ensures { result ≡ is_bound (option_copied bound.entry) symbol.now }
 {
-    replaced_in_form(alloc, form, &Replacement::Number(name, by))
+    match bound {
+        Some(bound) => bound == symbol,
+        None => false,
+    }
 }
 
-/// The form with `by` wherever `name` stands as an array. It is true exactly where `form` is true
-/// of what `by` holds for `name`.
-pub fn subst_row(alloc: Global, form: &Form, name: &Sym, by: &ArrayTerm) -> Result<Form, AllocError>
-    ensures replaced { IfOk result (λ made.
-        form_tree made
-        ≡ replaced_form (array_by name.now (array_tree by.now)) (form_tree form.now)) }
-    ensures truth { IfOk result (λ made. (v : Interpretation) →
-        form_at v (form_tree made)
-        ≡ form_at (with_array v name.now (array_at v (array_tree by.now))) (form_tree form.now)) }
+fn put_leaf(out: &mut Vec<Node>, kind: NodeKind) -> Result<(), AllocError>
+    ensures { OnOk result (out.new.items ≡ out.old.items ++ (node kind 1 ∷ [])) }
 {
-    replaced_in_form(alloc, form, &Replacement::Array(name, by))
+    out.push(Node { kind, size: 1 })?;
+    Ok(())
 }
 
-/// The fact with `by` wherever `name` stands free as a number. The bound name stays, and `by` may
-/// not have it, for which `Fact::captures` is the test. What is made is true exactly where `fact`
-/// is true of what `by` is worth for `name`.
-pub fn subst_fact(alloc: Global, fact: &Fact, name: &Sym, by: &Term) -> Result<Fact, AllocError>
-    requires { captures (fact_tree fact.now) (term_names (term_tree by.now)) ≡ false }
-    ensures replaced { IfOk result (λ made.
-        fact_tree made
-        ≡ replaced_fact (number_by name.now (term_tree by.now)) (fact_tree fact.now)) }
-    ensures truth { IfOk result (λ made. (v : Interpretation) →
-        FactAt v (fact_tree made)
-        ↔ FactAt (with_value v name.now (term_at v (term_tree by.now))) (fact_tree fact.now)) }
-{
-    replaced_in_fact(alloc, fact, &Replacement::Number(name, by))
-}
-
-/// The fact with `by` wherever `name` stands as an array. `by` may not have the bound name, for
-/// which `Fact::captures_row` is the test. What is made is true exactly where `fact` is true of
-/// what `by` holds for `name`.
-pub fn subst_fact_row(
+fn put_number(
     alloc: Global,
-    fact: &Fact,
-    name: &Sym,
-    by: &ArrayTerm,
-) -> Result<Fact, AllocError>
-    requires { captures (fact_tree fact.now) (array_names (array_tree by.now)) ≡ false }
-    ensures replaced { IfOk result (λ made.
-        fact_tree made
-        ≡ replaced_fact (array_by name.now (array_tree by.now)) (fact_tree fact.now)) }
-    ensures truth { IfOk result (λ made. (v : Interpretation) →
-        FactAt v (fact_tree made)
-        ↔ FactAt (with_array v name.now (array_at v (array_tree by.now))) (fact_tree fact.now)) }
+    out: &mut Vec<Node>,
+    symbol: &Sym,
+    by: &Replacement,
+    bound: Option<&Sym>,
+) -> Result<(), AllocError>
+    ensures { OnOk result (out.new.items
+        ≡ out.old.items
+        ++ term_nodes ((change_below (option_copied bound.entry) (change_of by.now)).number symbol.now)) }
 {
-    replaced_in_fact(alloc, fact, &Replacement::Array(name, by))
+    if is_bound(bound, symbol) {
+        return put_leaf(out, NodeKind::Of(symbol.copy(alloc)?));
+    }
+    match number_for(by, symbol) {
+        Some(term) => put_copies(alloc, out, term.nodes()),
+        None => put_leaf(out, NodeKind::Of(symbol.copy(alloc)?)),
+    }
+}
+
+fn put_array(
+    alloc: Global,
+    out: &mut Vec<Node>,
+    symbol: &Sym,
+    by: &Replacement,
+) -> Result<(), AllocError>
+    ensures { OnOk result (out.new.items ≡ out.old.items ++ array_nodes ((change_of by.now).array symbol.now)) }
+{
+    match array_for(by, symbol) {
+        Some(array) => put_copies(alloc, out, array.nodes()),
+        None => put_leaf(out, NodeKind::Base(symbol.copy(alloc)?)),
+    }
+}
+
+// Puts what becomes of a node.
+#[tactic(auto, unfolding(crate::specs::Code::Rewriting::put_node))]
+fn put_node(
+    alloc: Global,
+    out: &mut Vec<Node>,
+    kind: &NodeKind,
+    by: &Replacement,
+    bound: Option<&Sym>,
+) -> Result<(), AllocError>
+    ensures { OnOk result (out.new.items
+        ≡ put_node (change_below (option_copied bound.entry) (change_of by.now)) out.old.items kind.now) }
+{
+    match kind {
+        NodeKind::Of(symbol) => put_number(alloc, out, symbol, by, bound),
+        NodeKind::Base(symbol) => put_array(alloc, out, symbol, by),
+        NodeKind::Num(_)
+        | NodeKind::Add
+        | NodeKind::Sub
+        | NodeKind::Mul
+        | NodeKind::Div
+        | NodeKind::Rem
+        | NodeKind::Read
+        | NodeKind::Truth
+        | NodeKind::Store
+        | NodeKind::True
+        | NodeKind::False
+        | NodeKind::Le
+        | NodeKind::Eq
+        | NodeKind::Not
+        | NodeKind::And
+        | NodeKind::Or => put_operator(out, kind.copy(alloc)?),
+    }
+}
+
+// The nodes in which names are replaced. The bound name stays.
+fn replaced_nodes(
+    alloc: Global,
+    nodes: &[Node],
+    by: &Replacement,
+    bound: Option<&Sym>,
+) -> Result<Vec<Node>, AllocError>
+    ensures { IfOk result (λ made. made.items
+        ≡ put_nodes (change_below (option_copied bound.entry) (change_of by.now)) [] nodes.now) }
+{
+    let mut out = Vec::with_capacity(alloc, nodes.len())?;
+    for node in nodes {
+        put_node(alloc, &mut out, &node.kind, by, bound)?;
+    }
+    Ok(out)
 }

@@ -15,5 +15,5 @@ element-returns-in_ok-stored-in-Store t c =
     c.written.ensures ∙ (λ i. written (to_z-of_z w128 c.args.index c.ranges.index i) (to_z-of_z w128 c.in_ok-before-in-Store.before fits_before i)
     (to_z-of_z w128 c.in_ok-place-in-Store.place fits_place i) (to_z-of_z w128 c.in_ok-stored-in-Store.stored fits_stored i)) in
     ap Some (to_z-of_z w128 c.written.result fits ∙ is) ∙ stored_value c.args.at.now c.args.array.now c.in-Store.inner c.in-Store.place c.in-Store.stored
-    c.args.index c.in_ok-before-in-Store.before c.in_ok-place-in-Store.place c.in_ok-stored-in-Store.stored c.in-Store.is
+    c.args.index c.in_ok-before-in-Store.before c.in_ok-place-in-Store.place c.in_ok-stored-in-Store.stored c.in-Store.ensures
     (search (rules, to_z-of_z)) (search (rules, to_z-of_z)) (search (rules, to_z-of_z))
