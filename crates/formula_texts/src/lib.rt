@@ -1,0 +1,11 @@
+//! The texts of forms and terms: which text is which form, how forms are written, and that what is
+//! written is read back.
+#![tactic(auto)]
+
+pub mod size;
+pub mod token;
+pub mod value;
+
+pub use size::Size;
+pub use token::{Operator, Token};
+pub use value::Value;
