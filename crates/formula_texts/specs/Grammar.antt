@@ -8,6 +8,7 @@ use Rattle.formula_texts.specs.declared.token.Token.{Token}
 use Rattle.formula_texts.specs.declared.token.Token.TheVariants as token
 use Rattle.formula_texts.specs.declared.token.Operator.{Operator}
 use Rattle.formula_texts.specs.declared.token.Operator.TheVariants as op
+use Rattle.formula_texts.specs.declared.token.Mark.TheVariants as mark
 use Rattle.formula_texts.specs.declared.value.Value.{Value}
 use Rattle.formula_texts.specs.declared.value.Value.TheVariants as value
 use Rattle.formula_texts.specs.declared.size.Size.{Size}
@@ -54,11 +55,11 @@ abbrev mutual
   tokens_of always = token.True ∷ []
   tokens_of never = token.False ∷ []
   tokens_of (name x) = name_tokens x
-  tokens_of (element a i) = row_tokens a ++ (token.SquareOpen ∷ tokens_of i ++ (token.SquareClose ∷ []))
-  tokens_of (truth f) = token.Truth ∷ token.RoundOpen ∷ tokens_of f ++ (token.RoundClose ∷ [])
-  tokens_of (brackets t) = token.RoundOpen ∷ tokens_of t ++ (token.RoundClose ∷ [])
-  tokens_of (quotient t u) = token.RoundOpen ∷ tokens_of t ++ (token.Slash ∷ tokens_of u ++ (token.RoundClose ∷ []))
-  tokens_of (remainder t u) = token.RoundOpen ∷ tokens_of t ++ (token.Percent ∷ tokens_of u ++ (token.RoundClose ∷ []))
+  tokens_of (element a i) = row_tokens a ++ (token.Mark mark.SquareOpen ∷ tokens_of i ++ (token.Mark mark.SquareClose ∷ []))
+  tokens_of (truth f) = token.Truth ∷ token.Mark mark.RoundOpen ∷ tokens_of f ++ (token.Mark mark.RoundClose ∷ [])
+  tokens_of (brackets t) = token.Mark mark.RoundOpen ∷ tokens_of t ++ (token.Mark mark.RoundClose ∷ [])
+  tokens_of (quotient t u) = token.Mark mark.RoundOpen ∷ tokens_of t ++ (token.Mark mark.Slash ∷ tokens_of u ++ (token.Mark mark.RoundClose ∷ []))
+  tokens_of (remainder t u) = token.Mark mark.RoundOpen ∷ tokens_of t ++ (token.Mark mark.Percent ∷ tokens_of u ++ (token.Mark mark.RoundClose ∷ []))
   tokens_of (negation t) = token.Operator op.Minus ∷ tokens_of t
   tokens_of (denial f) = token.Not ∷ tokens_of f
   tokens_of (joined a o b) = tokens_of a ++ (token.Operator o ∷ tokens_of b)
@@ -66,8 +67,8 @@ abbrev mutual
   pub row_tokens : Row → List Token
   row_tokens (array x) = name_tokens x
   row_tokens (stored a i t) =
-      token.Store ∷ token.RoundOpen ∷ row_tokens a
-      ++ (token.Comma ∷ tokens_of i ++ (token.Comma ∷ tokens_of t ++ (token.RoundClose ∷ [])))
+      token.Store ∷ token.Mark mark.RoundOpen ∷ row_tokens a
+      ++ (token.Mark mark.Comma ∷ tokens_of i ++ (token.Mark mark.Comma ∷ tokens_of t ++ (token.Mark mark.RoundClose ∷ [])))
 
 -- ---- grouping
 

@@ -7,6 +7,7 @@ use Rattle.c_grammar.specs.Pieces.{value}
 use Rattle.formula_texts.specs.declared.token.Token.{Token}
 use Rattle.formula_texts.specs.declared.token.Token.TheVariants as token
 use Rattle.formula_texts.specs.declared.token.Operator.TheVariants as op
+use Rattle.formula_texts.specs.declared.token.Mark.TheVariants as mark
 
 -- ---- words and numbers
 
@@ -95,15 +96,15 @@ pair_token byte next =
 -- the marks of one byte that isn't a `-`
 abbrev pub byte_token : ℕ → Option Token
 byte_token byte =
-    if byte == 40 then Some token.RoundOpen else
-    (if byte == 41 then Some token.RoundClose else
-    (if byte == 91 then Some token.SquareOpen else
-    (if byte == 93 then Some token.SquareClose else
-    (if byte == 44 then Some token.Comma else
+    if byte == 40 then Some (token.Mark mark.RoundOpen) else
+    (if byte == 41 then Some (token.Mark mark.RoundClose) else
+    (if byte == 91 then Some (token.Mark mark.SquareOpen) else
+    (if byte == 93 then Some (token.Mark mark.SquareClose) else
+    (if byte == 44 then Some (token.Mark mark.Comma) else
     (if byte == 43 then Some (token.Operator op.Plus) else
     (if byte == 42 then Some (token.Operator op.Times) else
-    (if byte == 47 then Some token.Slash else
-    (if byte == 37 then Some token.Percent else
+    (if byte == 47 then Some (token.Mark mark.Slash) else
+    (if byte == 37 then Some (token.Mark mark.Percent) else
     (if byte == 60 then Some (token.Operator op.Less) else
     (if byte == 62 then Some (token.Operator op.Greater) else None))))))))))
 

@@ -34,37 +34,40 @@ is_compound_form f = true
 abbrev pub in_brackets : Bytes → Bytes
 in_brackets text = codes "(" ++ (text ++ codes ")")
 
--- a part of another one
-abbrev pub part_text : Bool → Bytes → Bytes
-part_text is_compound text = if is_compound then in_brackets text else text
+-- the text of a part of another one
+abbrev pub term_part : TermTree → Bytes → Bytes
+term_part t text = if is_compound_term t then in_brackets text else text
+
+abbrev pub form_part : FormTree → Bytes → Bytes
+form_part f text = if is_compound_form f then in_brackets text else text
 
 -- Each compound part stands in brackets, and an operator has a space on each side.
 abbrev mutual
   pub term_text : TermTree → Bytes
   term_text (number z) = signed_decimal z
   term_text (name x) = name_text x
-  term_text (plus t u) = part_text (is_compound_term t) (term_text t) ++ (codes " + " ++ part_text (is_compound_term u) (term_text u))
-  term_text (minus t u) = part_text (is_compound_term t) (term_text t) ++ (codes " - " ++ part_text (is_compound_term u) (term_text u))
-  term_text (times t u) = part_text (is_compound_term t) (term_text t) ++ (codes " * " ++ part_text (is_compound_term u) (term_text u))
-  term_text (divided t u) = in_brackets (part_text (is_compound_term t) (term_text t) ++ (codes " / " ++ part_text (is_compound_term u) (term_text u)))
-  term_text (remainder t u) = in_brackets (part_text (is_compound_term t) (term_text t) ++ (codes " % " ++ part_text (is_compound_term u) (term_text u)))
-  term_text (read a i) = array_text a ++ (codes "[" ++ (part_text (is_compound_term i) (term_text i) ++ codes "]"))
-  term_text (truth f) = codes "$truth(" ++ (part_text (is_compound_form f) (form_text f) ++ codes ")")
+  term_text (plus t u) = term_part t (term_text t) ++ (codes " + " ++ term_part u (term_text u))
+  term_text (minus t u) = term_part t (term_text t) ++ (codes " - " ++ term_part u (term_text u))
+  term_text (times t u) = term_part t (term_text t) ++ (codes " * " ++ term_part u (term_text u))
+  term_text (divided t u) = in_brackets (term_part t (term_text t) ++ (codes " / " ++ term_part u (term_text u)))
+  term_text (remainder t u) = in_brackets (term_part t (term_text t) ++ (codes " % " ++ term_part u (term_text u)))
+  term_text (read a i) = array_text a ++ (codes "[" ++ (term_part i (term_text i) ++ codes "]"))
+  term_text (truth f) = codes "$truth(" ++ (form_part f (form_text f) ++ codes ")")
 
   pub array_text : ArrayTree → Bytes
   array_text (array x) = name_text x
   array_text (stored a i t) =
-      codes "$store(" ++ (array_text a ++ (codes ", " ++ (part_text (is_compound_term i) (term_text i)
-      ++ (codes ", " ++ (part_text (is_compound_term t) (term_text t) ++ codes ")")))))
+      codes "$store(" ++ (array_text a ++ (codes ", " ++ (term_part i (term_text i)
+      ++ (codes ", " ++ (term_part t (term_text t) ++ codes ")")))))
 
   pub form_text : FormTree → Bytes
   form_text always = codes "$true"
   form_text never = codes "$false"
-  form_text (at_most t u) = part_text (is_compound_term t) (term_text t) ++ (codes " <= " ++ part_text (is_compound_term u) (term_text u))
-  form_text (equal t u) = part_text (is_compound_term t) (term_text t) ++ (codes " == " ++ part_text (is_compound_term u) (term_text u))
-  form_text (denied f) = codes "not " ++ part_text (is_compound_form f) (form_text f)
-  form_text (both f g) = part_text (is_compound_form f) (form_text f) ++ (codes " and " ++ part_text (is_compound_form g) (form_text g))
-  form_text (either f g) = part_text (is_compound_form f) (form_text f) ++ (codes " or " ++ part_text (is_compound_form g) (form_text g))
+  form_text (at_most t u) = term_part t (term_text t) ++ (codes " <= " ++ term_part u (term_text u))
+  form_text (equal t u) = term_part t (term_text t) ++ (codes " == " ++ term_part u (term_text u))
+  form_text (denied f) = codes "not " ++ form_part f (form_text f)
+  form_text (both f g) = form_part f (form_text f) ++ (codes " and " ++ form_part g (form_text g))
+  form_text (either f g) = form_part f (form_text f) ++ (codes " or " ++ form_part g (form_text g))
 
 -- ---- what has a text
 
@@ -102,35 +105,38 @@ abbrev mutual
   form_fits (both f g) = form_fits f && form_fits g
   form_fits (either f g) = form_fits f && form_fits g
 
-abbrev pub part_brackets : Bool → ℕ → ℕ
-part_brackets is_compound n = if is_compound then 1 + n else n
+abbrev pub around_term : TermTree → ℕ → ℕ
+around_term t n = if is_compound_term t then 1 + n else n
+
+abbrev pub around_form : FormTree → ℕ → ℕ
+around_form f n = if is_compound_form f then 1 + n else n
 
 -- how many brackets are open at once in its text
 abbrev mutual
   pub term_brackets : TermTree → ℕ
   term_brackets (number z) = 0
   term_brackets (name x) = 0
-  term_brackets (plus t u) = max (part_brackets (is_compound_term t) (term_brackets t)) (part_brackets (is_compound_term u) (term_brackets u))
-  term_brackets (minus t u) = max (part_brackets (is_compound_term t) (term_brackets t)) (part_brackets (is_compound_term u) (term_brackets u))
-  term_brackets (times t u) = max (part_brackets (is_compound_term t) (term_brackets t)) (part_brackets (is_compound_term u) (term_brackets u))
-  term_brackets (divided t u) = 1 + max (part_brackets (is_compound_term t) (term_brackets t)) (part_brackets (is_compound_term u) (term_brackets u))
-  term_brackets (remainder t u) = 1 + max (part_brackets (is_compound_term t) (term_brackets t)) (part_brackets (is_compound_term u) (term_brackets u))
-  term_brackets (read a i) = max (array_brackets a) (1 + part_brackets (is_compound_term i) (term_brackets i))
-  term_brackets (truth f) = 1 + part_brackets (is_compound_form f) (form_brackets f)
+  term_brackets (plus t u) = max (around_term t (term_brackets t)) (around_term u (term_brackets u))
+  term_brackets (minus t u) = max (around_term t (term_brackets t)) (around_term u (term_brackets u))
+  term_brackets (times t u) = max (around_term t (term_brackets t)) (around_term u (term_brackets u))
+  term_brackets (divided t u) = 1 + max (around_term t (term_brackets t)) (around_term u (term_brackets u))
+  term_brackets (remainder t u) = 1 + max (around_term t (term_brackets t)) (around_term u (term_brackets u))
+  term_brackets (read a i) = max (array_brackets a) (1 + around_term i (term_brackets i))
+  term_brackets (truth f) = 1 + around_form f (form_brackets f)
 
   pub array_brackets : ArrayTree → ℕ
   array_brackets (array x) = 0
   array_brackets (stored a i t) =
-      1 + max (array_brackets a) (max (part_brackets (is_compound_term i) (term_brackets i)) (part_brackets (is_compound_term t) (term_brackets t)))
+      1 + max (array_brackets a) (max (around_term i (term_brackets i)) (around_term t (term_brackets t)))
 
   pub form_brackets : FormTree → ℕ
   form_brackets always = 0
   form_brackets never = 0
-  form_brackets (at_most t u) = max (part_brackets (is_compound_term t) (term_brackets t)) (part_brackets (is_compound_term u) (term_brackets u))
-  form_brackets (equal t u) = max (part_brackets (is_compound_term t) (term_brackets t)) (part_brackets (is_compound_term u) (term_brackets u))
-  form_brackets (denied f) = part_brackets (is_compound_form f) (form_brackets f)
-  form_brackets (both f g) = max (part_brackets (is_compound_form f) (form_brackets f)) (part_brackets (is_compound_form g) (form_brackets g))
-  form_brackets (either f g) = max (part_brackets (is_compound_form f) (form_brackets f)) (part_brackets (is_compound_form g) (form_brackets g))
+  form_brackets (at_most t u) = max (around_term t (term_brackets t)) (around_term u (term_brackets u))
+  form_brackets (equal t u) = max (around_term t (term_brackets t)) (around_term u (term_brackets u))
+  form_brackets (denied f) = around_form f (form_brackets f)
+  form_brackets (both f g) = max (around_form f (form_brackets f)) (around_form g (form_brackets g))
+  form_brackets (either f g) = max (around_form f (form_brackets f)) (around_form g (form_brackets g))
 
 -- the text is one that is read: within the limits of numbers, words and brackets
 abbrev pub has_term_text : TermTree → Bool

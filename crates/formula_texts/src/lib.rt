@@ -3,9 +3,11 @@
 #![tactic(auto)]
 
 pub mod size;
+pub mod stop;
 pub mod token;
 pub mod value;
 
 pub use size::Size;
-pub use token::{Operator, Token};
+pub use stop::Stop;
+pub use token::{Mark, Operator, Token};
 pub use value::Value;

@@ -18,6 +18,18 @@ pub enum Operator {
     Times,
 }
 
+/// Brackets, the comma, and the signs that stand between a term and its divisor.
+#[derive(Clone, Copy, Debug)]
+pub enum Mark {
+    RoundOpen,
+    RoundClose,
+    SquareOpen,
+    SquareClose,
+    Comma,
+    Slash,
+    Percent,
+}
+
 /// A token of a text. `Base` is a name without its count, and `Count` a count with its `'`.
 #[derive(Debug, Drop)]
 pub enum Token {
@@ -31,11 +43,5 @@ pub enum Token {
     False,
     Truth,
     Store,
-    RoundOpen,
-    RoundClose,
-    SquareOpen,
-    SquareClose,
-    Comma,
-    Slash,
-    Percent,
+    Mark(Mark),
 }
