@@ -99,7 +99,7 @@ module _ (inner : ℕ → Parse) (inner_row : ParseRow) where
   closes_by go d m left (Some (o, ts)) h = rw (lt-ltb _ _ h) refl
 
   -- where no operator goes on
-  closes : (k d m : ℕ) (left : Found) → IfSome (next_operator left.rest) (λ x. level x.0 < m) → more inner inner_row k d m left ≡ Some left
+  pub closes : (k d m : ℕ) (left : Found) → IfSome (next_operator left.rest) (λ x. level x.0 < m) → more inner inner_row k d m left ≡ Some left
   unfolding more
   closes zero d m left h = refl
   closes (suc k) d m left h = closes_by (more inner inner_row k d m) d m left (next_operator left.rest) h

@@ -1,2 +1,4 @@
 pub mod Complete
 pub mod OperatorLaws
+pub mod Sound
+pub mod TokenLaws

@@ -1,2 +1,3 @@
 -- Definitions that mirror the code.
+pub mod Lexing
 pub mod Reading

@@ -1,5 +1,5 @@
 -- Reading forms and terms from a list of tokens.
-use Rattle.std.specs.Prelude.{⊤, ◌≡◌, ℕ, ℤ, pos, neg_ℤ, zero, suc, ◌+◌, ◌==◌, nat_lt, if◌then◌else◌, List, [], ◌∷◌, Option, Some, None, Result, Ok, Err}
+use Rattle.std.specs.Prelude.{⊤, ◌≡◌, ℕ, ℤ, pos, neg_ℤ, zero, suc, ◌+◌, Bool, ◌&&◌, ◌==◌, nat_lt, nat_le, if◌then◌else◌, List, [], ◌∷◌, Option, Some, None, Result, Ok, Err}
 use Rattle.c_lang.specs.Names.{Bytes}
 use Rattle.terms.specs.declared.sym.Sym.{Sym}
 use Rattle.terms.specs.Trees as tree
@@ -15,6 +15,7 @@ use Rattle.formula_texts.specs.declared.value.Value.TheVariants as value
 use Rattle.formula_texts.specs.declared.size.Size.{Size}
 use Rattle.formula_texts.specs.declared.stop.Stop.{Stop}
 use Rattle.formula_texts.specs.declared.stop.Stop.TheVariants as stop
+use Rattle.formula_texts.specs.Texts.{bracket_limit, operator_limit}
 use Rattle.formula_texts.specs.Grammar.{◌>>=◌, level, not_level, sign_level, leaf_size, grown, larger, term, of_terms, apply, element_of, truth_of, negated, denied, stored_of}
 
 -- a function answered what reading gives, unless memory ran out
@@ -229,3 +230,31 @@ readers (suc d) =
     let inner = (readers d).value in
     let inner_row = (readers d).row in
     record { value = λ m ts. operand inner inner_row m ts >>= more inner inner_row (suc d) (suc d) m; row = array_at inner inner_row }
+
+-- ---- whole lists of tokens
+
+-- no text within the limits is higher
+abbrev pub height_limit : ℕ
+height_limit = 2002
+
+abbrev pub is_small : Size → Bool
+is_small s = nat_le s.brackets bracket_limit && nat_le s.operators operator_limit
+
+abbrev pub ended_by : Found → List Token → Option Value
+ended_by x [] = if is_small x.size then Some x.value else None
+ended_by x (t ∷ ts) = None
+
+unfoldable pub value_in : List Token → Option Value
+value_in ts = (readers height_limit).value 1 ts >>= λ x. ended_by x x.rest
+
+abbrev pub whole_name : Sym × List Token → Option Sym
+whole_name (x, []) = Some x
+whole_name (x, t ∷ ts) = None
+
+abbrev pub name_by : Token → List Token → Option Sym
+name_by (token.Base x) ts = whole_name (name_after x ts)
+name_by _ ts = None
+
+unfoldable pub name_in : List Token → Option Sym
+name_in [] = None
+name_in (t ∷ ts) = name_by t ts
