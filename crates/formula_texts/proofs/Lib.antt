@@ -1,4 +1,5 @@
 pub mod Complete
+pub mod LexLaws
 pub mod OperatorLaws
 pub mod Sound
 pub mod TokenLaws
