@@ -1,3 +1,2 @@
 -- Definitions that mirror the code.
-pub mod Operations
-pub mod Replacement
+pub mod Operands

@@ -1,8 +1,6 @@
 pub mod Symbols
 pub mod Trees
-pub mod Names
-pub mod Truth
-pub mod Replacing
-pub mod Valuations
-pub mod Validity
+pub mod Nodes
+pub mod NodeLaws
+pub mod Views
 pub mod Code
