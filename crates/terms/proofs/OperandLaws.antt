@@ -251,3 +251,25 @@ pub form_by_root : (nodes operands : List Node) (root : Node) (k : NodeKind) →
     → IsFormOf k operands × (form_of k operands ≡ form_in nodes)
 form_by_root nodes operands root k is h e =
     subst (λ l. IsFormOf l operands × (form_of l operands ≡ form_in nodes)) e (form_taken (form_in nodes) operands root (sym is ∙ h))
+
+-- ---- nodes put together
+
+pub made_of_one : (ms made xs : List Node) (m : ℕ) (k : NodeKind) → ms ≡ xs → made ≡ ms ++ (node k (1 + length ms) ∷ []) → length xs ≡ m
+    → made ≡ xs ++ (node k (1 + m) ∷ [])
+made_of_one ms made xs m k e h count = h ∙ (λ j. e j ++ (node k (1 + (ap length e ∙ count) j) ∷ []))
+
+pub made_of_two : (ms ns os made xs ys : List Node) (m n : ℕ) (k : NodeKind) → ms ≡ xs → ns ≡ ys → os ≡ ms ++ ns → made ≡ os ++ (node k (1 + length os) ∷ [])
+    → length xs ≡ m → length ys ≡ n → made ≡ xs ++ (ys ++ (node k (1 + (m + n)) ∷ []))
+made_of_two ms ns os made xs ys m n k e f g h c d =
+    made_of_one os made (xs ++ ys) (m + n) k (g ∙ ap₂ (λ u v. u ++ v) e f) h (length-append xs ys ∙ ap₂ (λ u v. u + v) c d)
+    ∙ append_assoc xs ys (node k (1 + (m + n)) ∷ [])
+
+pub made_of_three : (ls ms ns fs os made xs ys zs : List Node) (l m n : ℕ) (k : NodeKind) → ls ≡ xs → ms ≡ ys → ns ≡ zs → fs ≡ ls ++ ms → os ≡ fs ++ ns
+    → made ≡ os ++ (node k (1 + length os) ∷ []) → length xs ≡ l → length ys ≡ m → length zs ≡ n
+    → made ≡ xs ++ (ys ++ (zs ++ (node k (1 + (l + (m + n))) ∷ [])))
+made_of_three ls ms ns fs os made xs ys zs l m n k e f g p q h b c d =
+    let end : List Node = node k (1 + (l + (m + n))) ∷ [] in
+    made_of_one os made (xs ++ (ys ++ zs)) (l + (m + n)) k
+    (q ∙ ap₂ (λ u v. u ++ v) (p ∙ ap₂ (λ u v. u ++ v) e f) g ∙ append_assoc xs ys zs) h
+    (length-append xs (ys ++ zs) ∙ ap₂ (λ u v. u + v) b (length-append ys zs ∙ ap₂ (λ u v. u + v) c d))
+    ∙ append_assoc xs (ys ++ zs) end ∙ ap (λ u. xs ++ u) (append_assoc ys zs end)
