@@ -7,7 +7,7 @@ use Rattle.terms.specs.declared.node.NodeKind.{NodeKind}
 use Rattle.terms.specs.declared.node.NodeKind.TheVariants as kind
 use Rattle.terms.specs.Trees.{TermTree, number, name, plus, minus, times, divided, remainder, read, truth, ArrayTree, array, stored, FormTree, always, never, at_most, equal, denied, both, either}
 use Rattle.terms.specs.Nodes.{node, term_size, array_size, form_size, term_nodes, array_nodes, form_nodes, term_in, array_in, form_in}
-use Rattle.terms.specs.NodeLaws.{term_in-nodes, array_in-nodes, form_in-nodes}
+use Rattle.terms.specs.Code.NodeLaws.{term_in-nodes, array_in-nodes, form_in-nodes}
 use Rattle.terms.specs.Code.Operands.{end_size, before_last, last_part, IsTerm, IsArray, IsForm, term_of, IsTermOf, array_of, IsArrayOf, form_of, IsFormOf}
 
 -- ---- the last node

@@ -1,6 +1,11 @@
 pub mod Symbols
 pub mod Trees
 pub mod Nodes
-pub mod NodeLaws
+pub mod Equality
 pub mod Views
+pub mod Names
+pub mod Truth
+pub mod Replacing
+pub mod Valuations
+pub mod Validity
 pub mod Code

@@ -36,7 +36,7 @@ impl Model for Term {
     ghost use Rattle.terms.specs.declared.node.Node.{Node};
     ghost use Rattle.terms.specs.contracts.node.Node as node;
     ghost use Rattle.terms.specs.Nodes.{term_nodes, term_in};
-    ghost use Rattle.terms.specs.NodeLaws.{term_in-nodes};
+    ghost use Rattle.terms.specs.Code.NodeLaws.{term_in-nodes};
 
     ghost coded = { code_by (List Node) (Prim.hlevel (codes, node.the_row.coded)) term_nodes term_in term_in-nodes };
 
@@ -69,7 +69,7 @@ impl Model for ArrayTerm {
     ghost use Rattle.terms.specs.declared.node.Node.{Node};
     ghost use Rattle.terms.specs.contracts.node.Node as node;
     ghost use Rattle.terms.specs.Nodes.{array_nodes, array_in};
-    ghost use Rattle.terms.specs.NodeLaws.{array_in-nodes};
+    ghost use Rattle.terms.specs.Code.NodeLaws.{array_in-nodes};
 
     ghost coded = { code_by (List Node) (Prim.hlevel (codes, node.the_row.coded)) array_nodes array_in array_in-nodes };
 
@@ -102,7 +102,7 @@ impl Model for Form {
     ghost use Rattle.terms.specs.declared.node.Node.{Node};
     ghost use Rattle.terms.specs.contracts.node.Node as node;
     ghost use Rattle.terms.specs.Nodes.{form_nodes, form_in};
-    ghost use Rattle.terms.specs.NodeLaws.{form_in-nodes};
+    ghost use Rattle.terms.specs.Code.NodeLaws.{form_in-nodes};
 
     ghost coded = { code_by (List Node) (Prim.hlevel (codes, node.the_row.coded)) form_nodes form_in form_in-nodes };
 

@@ -3,14 +3,21 @@
 #![tactic(auto)]
 
 mod build;
+pub mod fact;
 pub mod form;
 pub mod node;
 pub mod part;
+mod same;
+pub mod sequent;
 pub mod sym;
+pub mod valuation;
 pub mod view;
 
+pub use fact::Fact;
 pub use form::{ArrayTerm, Form, Term};
 pub use node::{Node, NodeKind};
 pub use part::{ArrayRef, FormRef, TermRef};
+pub use sequent::{Label, Sequent, Sort, What};
 pub use sym::Sym;
+pub use valuation::Valuation;
 pub use view::{ArrayView, FormView, TermView};

@@ -5,7 +5,7 @@ use std::alloc::{AllocError, Global};
 
 /// What a node of a formula is. `Num` is a number, `Of` a name that stands for one, `Base` a name
 /// that stands for an array; each of the others is an operator.
-#[derive(Debug, Drop, PartialEq, Eq)]
+#[derive(Debug, Drop)]
 pub enum NodeKind {
     Num(i128),
     Of(Sym),
@@ -28,7 +28,7 @@ pub enum NodeKind {
 }
 
 /// A node, and how many nodes the part of the formula has that ends in it.
-#[derive(Debug, Drop, PartialEq, Eq)]
+#[derive(Debug, Drop)]
 pub struct Node {
     pub kind: NodeKind,
     pub size: u32,
