@@ -1,6 +1,6 @@
 ghost use Rattle.std.specs.Prelude.{◌≡◌, IfOk};
 ghost use Rattle.terms.specs.Trees.{number, name, plus, minus, times, divided, remainder, read, truth, array, stored, always, never, at_most, equal, denied, both, either};
-ghost use Rattle.terms.specs.Nodes.{term_nodes, array_nodes, form_nodes};
+ghost use Rattle.terms.specs.Nodes.{term_nodes, array_nodes, form_nodes, term_in, array_in, form_in};
 ghost use Rattle.terms.specs.Views.{viewed_term, viewed_array, viewed_form};
 
 use crate::Sym;
@@ -142,6 +142,13 @@ impl Term {
         })
     }
 
+    pub(crate) fn from_nodes(nodes: Vec<Node>) -> Term
+        requires { nodes.items ≡ term_nodes (term_in nodes.items) }
+        ensures { result ≡ term_in nodes.items }
+    {
+        Term { nodes }
+    }
+
     fn into_nodes(self) -> Vec<Node>
         ensures { result.items ≡ term_nodes self }
     {
@@ -268,6 +275,13 @@ impl ArrayTerm {
         })
     }
 
+    pub(crate) fn from_nodes(nodes: Vec<Node>) -> ArrayTerm
+        requires { nodes.items ≡ array_nodes (array_in nodes.items) }
+        ensures { result ≡ array_in nodes.items }
+    {
+        ArrayTerm { nodes }
+    }
+
     fn into_nodes(self) -> Vec<Node>
         ensures { result.items ≡ array_nodes self }
     {
@@ -326,6 +340,13 @@ impl Form {
         Ok(Form {
             nodes: copied(alloc, self.nodes.as_slice())?,
         })
+    }
+
+    pub(crate) fn from_nodes(nodes: Vec<Node>) -> Form
+        requires { nodes.items ≡ form_nodes (form_in nodes.items) }
+        ensures { result ≡ form_in nodes.items }
+    {
+        Form { nodes }
     }
 
     fn into_nodes(self) -> Vec<Node>

@@ -3,6 +3,7 @@
 #![tactic(auto)]
 
 mod build;
+mod copy;
 pub mod fact;
 pub mod form;
 pub mod node;

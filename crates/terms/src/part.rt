@@ -1,10 +1,13 @@
-ghost use Rattle.std.specs.Prelude.{◌≡◌};
+ghost use Rattle.std.specs.Prelude.{◌≡◌, IfOk};
 ghost use Rattle.terms.specs.Nodes.{term_nodes, array_nodes, form_nodes, term_in, array_in, form_in};
 ghost use Rattle.terms.specs.Views.{viewed_term, viewed_array, viewed_form};
 ghost use Rattle.terms.specs.Code.Operands.{end_size, before_last, last_part};
 
+use crate::build::copied;
+use crate::form::{ArrayTerm, Form, Term};
 use crate::node::{Node, NodeKind};
 use crate::view::{ArrayView, FormView, TermView};
+use std::alloc::{AllocError, Global};
 use std::marker::Model;
 
 /// The size of the part that ends in the last node.
@@ -116,6 +119,20 @@ impl<'a> TermRef<'a> {
         self.nodes
     }
 
+    /// The term as one of its own.
+    pub fn copy(&self, alloc: Global) -> Result<Term, AllocError>
+        ensures { IfOk result (λ copy. copy ≡ self.now) }
+    {
+        Ok(Term::from_nodes(copied(alloc, self.nodes)?))
+    }
+
+    /// The same term again.
+    pub fn again(&self) -> TermRef<'a>
+        ensures { result ≡ self.now }
+    {
+        TermRef { nodes: self.nodes }
+    }
+
     /// The term by its outermost operator. It takes no memory.
     pub fn view(&self) -> TermView<'a>
         ensures { viewed_term result ≡ self.now }
@@ -179,6 +196,20 @@ impl<'a> ArrayRef<'a> {
         self.nodes
     }
 
+    /// The array as one of its own.
+    pub fn copy(&self, alloc: Global) -> Result<ArrayTerm, AllocError>
+        ensures { IfOk result (λ copy. copy ≡ self.now) }
+    {
+        Ok(ArrayTerm::from_nodes(copied(alloc, self.nodes)?))
+    }
+
+    /// The same array again.
+    pub fn again(&self) -> ArrayRef<'a>
+        ensures { result ≡ self.now }
+    {
+        ArrayRef { nodes: self.nodes }
+    }
+
     /// The array by its outermost operator. It takes no memory.
     pub fn view(&self) -> ArrayView<'a>
         ensures { viewed_array result ≡ self.now }
@@ -230,6 +261,20 @@ impl<'a> FormRef<'a> {
         ensures { result.now ≡ form_nodes self.now }
     {
         self.nodes
+    }
+
+    /// The form as one of its own.
+    pub fn copy(&self, alloc: Global) -> Result<Form, AllocError>
+        ensures { IfOk result (λ copy. copy ≡ self.now) }
+    {
+        Ok(Form::from_nodes(copied(alloc, self.nodes)?))
+    }
+
+    /// The same form again.
+    pub fn again(&self) -> FormRef<'a>
+        ensures { result ≡ self.now }
+    {
+        FormRef { nodes: self.nodes }
     }
 
     /// The form by its outermost operator. It takes no memory.

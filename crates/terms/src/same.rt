@@ -4,7 +4,7 @@ ghost use Rattle.std.specs.Option.{option_copied};
 ghost use Rattle.terms.specs.Equality.{ordinal, number_in, symbol_in, same_numbers, same_symbols};
 
 use crate::node::{Node, NodeKind};
-use crate::{ArrayTerm, Form, Sym, Term};
+use crate::{ArrayTerm, Fact, Form, Sym, Term};
 
 impl NodeKind {
     #[tactic(auto, unfolding(crate::specs::Equality::ordinal))]
@@ -214,4 +214,40 @@ impl Eq for Form {
     ghost use Rattle.terms.specs.Code.EqualityLaws.{is_equivalence, same_form-equal, same_form-refl};
 
     ghost laws = { is_equivalence same_form same_form-equal same_form-refl };
+}
+
+impl PartialEq for Fact {
+    ghost use Rattle.terms.specs.Equality.{same_fact};
+
+    ghost eq = { same_fact };
+
+    ghost use Rattle.terms.specs.Code.EqualityLaws.{is_partial_equivalence, same_fact-equal, same_fact-refl};
+
+    ghost laws = { is_partial_equivalence same_fact same_fact-equal same_fact-refl };
+
+    fn eq(&self, other: &Fact) -> bool {
+        match self {
+            Fact::Plain(form) => match other {
+                Fact::Plain(same) => form == same,
+                Fact::All { .. } => false,
+            },
+            Fact::All { var, lo, hi, body } => match other {
+                Fact::Plain(_) => false,
+                Fact::All {
+                    var: name,
+                    lo: low,
+                    hi: high,
+                    body: same,
+                } => var == name && (lo == low && (hi == high && body == same)),
+            },
+        }
+    }
+}
+
+impl Eq for Fact {
+    ghost use Rattle.terms.specs.Equality.{same_fact};
+
+    ghost use Rattle.terms.specs.Code.EqualityLaws.{is_equivalence, same_fact-equal, same_fact-refl};
+
+    ghost laws = { is_equivalence same_fact same_fact-equal same_fact-refl };
 }
