@@ -91,6 +91,18 @@ last-sized : (ms ns : List Node) (n : ℕ) → Sized ns n → (before_last (ms +
 unfolding before_last last_part
 last-sized ms ns n s = (ap (λ k. take k (ms ++ ns)) (place ms ns n s) ∙ take-append_seam ms ns, ap (λ k. drop k (ms ++ ns)) (place ms ns n s) ∙ drop-append_seam ms ns)
 
+end-sized : (ms ns : List Node) (n : ℕ) → Sized ns n → end_size (ms ++ ns) ≡ n
+end-sized ms ns n s = ap (λ xs. end_size (ms ++ xs)) s.whole ∙ ap end_size (sym (append_assoc ms s.front (s.root ∷ []))) ∙ end_size-last (ms ++ s.front) s.root ∙ s.size
+
+pub term_end : (ms : List Node) (t : TermTree) → end_size (ms ++ term_nodes t) ≡ term_size t
+term_end ms t = end-sized ms (term_nodes t) (term_size t) (term_sized t)
+
+pub array_end : (ms : List Node) (a : ArrayTree) → end_size (ms ++ array_nodes a) ≡ array_size a
+array_end ms a = end-sized ms (array_nodes a) (array_size a) (array_sized a)
+
+pub form_end : (ms : List Node) (f : FormTree) → end_size (ms ++ form_nodes f) ≡ form_size f
+form_end ms f = end-sized ms (form_nodes f) (form_size f) (form_sized f)
+
 pub last_term : (ms : List Node) (t : TermTree) → (before_last (ms ++ term_nodes t) ≡ ms) × (last_part (ms ++ term_nodes t) ≡ term_nodes t)
 last_term ms t = last-sized ms (term_nodes t) (term_size t) (term_sized t)
 

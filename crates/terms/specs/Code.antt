@@ -3,3 +3,4 @@ pub mod NodeLaws
 pub mod SymbolLaws
 pub mod EqualityLaws
 pub mod Operands
+pub mod Rewriting

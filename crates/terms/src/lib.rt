@@ -3,17 +3,20 @@
 #![tactic(auto)]
 
 mod build;
+pub mod changes;
 mod copy;
 pub mod fact;
 pub mod form;
 pub mod node;
 pub mod part;
+mod replace;
 mod same;
 pub mod sequent;
 pub mod sym;
 pub mod valuation;
 pub mod view;
 
+pub use changes::Changes;
 pub use fact::Fact;
 pub use form::{ArrayTerm, Form, Term};
 pub use node::{Node, NodeKind};
