@@ -1,13 +1,15 @@
 -- The nodes of a formula in which names are replaced, made from the first node on.
-use Rattle.std.specs.Prelude.{ℕ, ◌+◌, List, [], ◌∷◌, ◌++◌, Option, Some, None}
+use Rattle.std.specs.Prelude.{ℕ, ◌+◌, List, [], ◌∷◌, ◌++◌, Option, Some, None, Bool, false, if◌then◌else◌}
 use Rattle.terms.specs.declared.sym.Sym.{Sym}
 use Rattle.terms.specs.declared.node.Node.{Node}
 use Rattle.terms.specs.declared.node.NodeKind.{NodeKind}
 use Rattle.terms.specs.declared.node.NodeKind.TheVariants as kind
 use Rattle.terms.specs.declared.replace.Replacement.{Replacement}
 use Rattle.terms.specs.declared.replace.Replacement.TheVariants as replacement
+use Rattle.terms.specs.Symbols.{same_sym}
+use Rattle.terms.specs.Trees.{name}
 use Rattle.terms.specs.Nodes.{node, term_nodes, array_nodes}
-use Rattle.terms.specs.Replacing.{Change, number_by, array_by, below, change_in}
+use Rattle.terms.specs.Replacing.{Change, number_by, array_by, change_in}
 use Rattle.terms.specs.Code.Operands.{end_size, before_last}
 
 -- the change that a replacement is
@@ -17,9 +19,12 @@ change_of (replacement.Array x a) = array_by x.now a.now
 change_of (replacement.Many c) = change_in c.now
 
 -- the same, where a bound name stays
+abbrev pub is_bound : Option Sym → Sym → Bool
+is_bound None y = false
+is_bound (Some x) y = same_sym x y
+
 abbrev pub change_below : Option Sym → Change → Change
-change_below None c = c
-change_below (Some x) c = below x c
+change_below bound c = record c { number = λ y. if is_bound bound y then name y else c.number y }
 
 -- the size of the operands that an operator of this kind finds at the end
 unfoldable pub operands_size : NodeKind → List Node → ℕ
