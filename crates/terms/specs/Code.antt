@@ -4,3 +4,4 @@ pub mod SymbolLaws
 pub mod EqualityLaws
 pub mod Operands
 pub mod Rewriting
+pub mod Operations

@@ -5,8 +5,10 @@
 mod build;
 pub mod changes;
 mod copy;
+mod evaluate;
 pub mod fact;
 pub mod form;
+pub mod laws;
 pub mod node;
 pub mod part;
 mod replace;
@@ -17,6 +19,7 @@ pub mod valuation;
 pub mod view;
 
 pub use changes::Changes;
+pub use evaluate::holds_at;
 pub use fact::Fact;
 pub use form::{ArrayTerm, Form, Term};
 pub use node::{Node, NodeKind};
