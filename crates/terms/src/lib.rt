@@ -24,6 +24,7 @@ pub use fact::Fact;
 pub use form::{ArrayTerm, Form, Term};
 pub use node::{Node, NodeKind};
 pub use part::{ArrayRef, FormRef, TermRef};
+pub use replace::{subst, subst_all, subst_fact, subst_fact_all, subst_fact_row, subst_row, subst_term_all};
 pub use sequent::{Label, Sequent, Sort, What};
 pub use sym::Sym;
 pub use valuation::Valuation;
