@@ -1,6 +1,5 @@
 -- What is made node by node is the formula in which names are replaced.
-use Rattle.std.proofs.Common.{◌≡◌, ℕ, ◌+◌, List, [], ◌∷◌, ◌++◌, refl, sym, ap, ap₂, ◌∙◌, append_assoc}
-use Rattle.terms.specs.declared.sym.Sym.{Sym}
+use Rattle.std.proofs.Common.{◌≡◌, ℕ, ◌+◌, List, [], ◌∷◌, ◌++◌, refl, ap, ap₂, ◌∙◌, append_assoc}
 use Rattle.terms.specs.declared.node.Node.{Node}
 use Rattle.terms.specs.declared.node.NodeKind.{NodeKind}
 use Rattle.terms.specs.declared.node.NodeKind.TheVariants as kind
@@ -9,7 +8,7 @@ use Rattle.terms.specs.Nodes.{node, term_size, array_size, form_size, term_nodes
 use Rattle.terms.specs.Replacing.{Change, replaced_term, replaced_array, replaced_form}
 use Rattle.terms.specs.Code.Operands.{end_size, before_last, IsTerm, IsArray, IsForm}
 use Rattle.terms.specs.Code.Rewriting.{operands_size, put_operator, put_node, put_nodes}
-use Rattle.terms.proofs.OperandLaws.{is_term, is_array, is_form, last_term, last_array, last_form, term_end, array_end, form_end}
+use Rattle.terms.proofs.OperandLaws.{is_term, is_array, is_form, last_term, last_form, term_end, array_end, form_end}
 
 module _ (c : Change) where
   pub put_nodes-append : (done ms ns : List Node) → put_nodes c done (ms ++ ns) ≡ put_nodes c (put_nodes c done ms) ns
@@ -59,6 +58,7 @@ module _ (c : Change) where
 
   mutual
     unfolding put_node put_operator operands_size
+
     pub term_put : (done : List Node) (t : TermTree) → put_nodes c done (term_nodes t) ≡ done ++ term_nodes (replaced_term c t)
     term_put done (number z) = refl
     term_put done (name x) = refl

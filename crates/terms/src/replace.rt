@@ -30,7 +30,8 @@ fn operands_size(kind: &NodeKind, nodes: &[Node]) -> usize
     ensures small { result < 2 ^ 34 }
 {
     match kind {
-        NodeKind::Num(_) | NodeKind::Of(_) | NodeKind::Base(_) | NodeKind::True | NodeKind::False => 0,
+        NodeKind::Num(_) | NodeKind::Of(_) | NodeKind::Base(_) | NodeKind::True | NodeKind::False =>
+            0,
         NodeKind::Truth | NodeKind::Not => end_size(nodes),
         NodeKind::Store => {
             let (front, _) = apart(nodes);
@@ -100,7 +101,7 @@ fn array_for<'a>(by: &Replacement<'a>, symbol: &Sym) -> Option<&'a ArrayTerm>
 }
 
 // Whether the name is the bound one.
-fn is_bound(bound: Option<&Sym>, symbol: &Sym) -> bool
+pub(crate) fn is_bound(bound: Option<&Sym>, symbol: &Sym) -> bool
     ensures { result ≡ is_bound (option_copied bound.entry) symbol.now }
 {
     match bound {

@@ -1,9 +1,8 @@
-use Rattle.std.proofs.Common.{◌≡◌, ◌↔◌, ap, ◌∙◌, sym, subst}
+use Rattle.std.proofs.Common.{◌≡◌, ap, ◌∙◌}
 use Rattle.std.proofs.lemmas.Result.{IfOk-weaker}
-use Rattle.terms.specs.declared.fact.Fact.{Fact}
-use Rattle.terms.specs.Truth.{Interpretation, with_value, with_array, term_at, array_at, form_at, FactAt}
-use Rattle.terms.specs.Replacing.{number_by, array_by, change_in, replaced_term, replaced_form, replaced_fact, changed}
-use Rattle.terms.proofs.ReplacingLaws.{term_at-replaced, form_at-replaced, FactAt-changed, form_at-number_by, form_at-array_by, FactAt-number_by, FactAt-array_by}
+use Rattle.terms.specs.Truth.{Interpretation, form_at}
+use Rattle.terms.specs.Replacing.{change_in, replaced_form, changed}
+use Rattle.terms.proofs.ReplacingLaws.{form_at-replaced}
 use Rattle.terms.proofs.replace.subst_all.Goals as goal
 
 pub returns-clause-truth : goal.returns-clause-truth
