@@ -1,12 +1,12 @@
 -- Names that are gathered one after the other are those of a list, each at its first place.
-use Rattle.std.proofs.Common.{◌≡◌, Bool, true, false, not, ◌&&◌, ◌||◌, if◌then◌else◌, cond, List, [], ◌∷◌, ◌++◌, filter, map, refl, sym, ap, ◌∙◌, append_assoc}
+use Rattle.std.proofs.Common.{ℕ, suc, ◌+◌, ◌<◌, ◌≤◌, length, drop, get_or, flat_map, drop-cons, add-one, ◌≡◌, Bool, true, false, not, ◌&&◌, ◌||◌, if◌then◌else◌, cond, List, [], ◌∷◌, ◌++◌, filter, map, refl, sym, ap, ◌∙◌, append_assoc}
 use Rattle.std.specs.List.{list_any}
+use Rattle.std.proofs.Math.ListN.{drop_of_length-le}
 use Rattle.std.proofs.lemmas.List.{append-nil}
 use Rattle.std.proofs.lemmas.List.Folds.{list_any-append}
 use Rattle.terms.specs.declared.sym.Sym.{Sym}
 use Rattle.terms.specs.Symbols.{same_sym}
-use Rattle.terms.specs.Trees.{FormTree}
-use Rattle.terms.specs.Names.{Occurrence, symbol, form_names, with_name, with_names, first_occurrences, distinct_names}
+use Rattle.terms.specs.Names.{Occurrence, symbol, with_name, with_names, first_occurrences, distinct}
 use Rattle.terms.proofs.Choices.{by_bool}
 use Rattle.terms.specs.Code.SymbolLaws.{same_sym-equal}
 
@@ -81,7 +81,24 @@ all_new : (xs : List Sym) → filter (is_new []) xs ≡ xs
 all_new [] = refl
 all_new (x ∷ xs) = ap (λ (ys : List Sym). x ∷ ys) (all_new xs)
 
-pub with_names-form : (f : FormTree) → with_names [] (form_names f) ≡ distinct_names f
-with_names-form f = gathered [] (form_names f) ∙ all_new (distinct_names f)
+pub with_names-distinct : (os : List Occurrence) → with_names [] os ≡ distinct os
+with_names-distinct os = gathered [] os ∙ all_new (distinct os)
 
-pub ruleset with_names_of = (with_names-form)
+pub ruleset gathering = (with_names-distinct)
+
+-- ---- a loop that gathers the names of a list's items
+
+module _ {X : Type 0} (f : X → List Occurrence) where
+  pub gather_more : (start names more : List Sym) (xs : List X) (i : ℕ) (x : X) → i < length xs → x ≡ get_or xs i x
+      → with_names start (flat_map f xs) ≡ with_names names (flat_map f (drop i xs)) → more ≡ with_names names (f x)
+      → with_names start (flat_map f xs) ≡ with_names more (flat_map f (drop (i + 1) xs))
+  gather_more start names more xs i x within is kept made =
+      let here : drop i xs ≡ x ∷ drop (i + 1) xs = drop-cons xs i x within ∙ ap (λ y. y ∷ drop (suc i) xs) (sym is) ∙ ap (λ n. x ∷ drop n xs) (sym (add-one i)) in
+      kept ∙ ap (λ ys. with_names names (flat_map f ys)) here
+      ∙ with_names-append names (f x) (flat_map f (drop (i + 1) xs))
+      ∙ ap (λ ns. with_names ns (flat_map f (drop (i + 1) xs))) (sym made)
+
+  pub gather_end : (start names : List Sym) (xs : List X) (i : ℕ) → length xs ≤ i
+      → with_names start (flat_map f xs) ≡ with_names names (flat_map f (drop i xs)) → names ≡ with_names start (flat_map f xs)
+  gather_end start names xs i past kept =
+      sym (kept ∙ ap (λ ys. with_names names (flat_map f ys)) (drop_of_length-le xs past) ∙ with_names-nil names)

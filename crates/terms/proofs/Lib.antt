@@ -6,3 +6,4 @@ pub mod ReplacingLaws
 pub mod FreeLaws
 pub mod KeptLaws
 pub mod ValueLaws
+pub mod OccurrenceLaws

@@ -1,6 +1,6 @@
 -- What the operands of a formula are.
 use Rattle.std.proofs.Common.{◌≡◌, ℕ, ◌+◌, ◌-◌, List, [], ◌∷◌, ◌++◌, length, take, drop, refl, sym, ap, ap₂, ◌∙◌, subst, append_assoc, arith}
-use Rattle.std.proofs.lemmas.List.{length-append, append-nil, same_from_push}
+use Rattle.std.proofs.lemmas.List.{length-append, same_from_push}
 use Rattle.std.proofs.Math.Seq.{take-append_seam, drop-append_seam}
 use Rattle.terms.specs.declared.node.Node.{Node}
 use Rattle.terms.specs.declared.node.NodeKind.{NodeKind}
@@ -285,3 +285,5 @@ made_of_three ls ms ns fs os made xs ys zs l m n k e f g p q h b c d =
     (q ∙ ap₂ (λ u v. u ++ v) (p ∙ ap₂ (λ u v. u ++ v) e f) g ∙ append_assoc xs ys zs) h
     (length-append xs (ys ++ zs) ∙ ap₂ (λ u v. u + v) b (length-append ys zs ∙ ap₂ (λ u v. u + v) c d))
     ∙ append_assoc xs (ys ++ zs) end ∙ ap (λ u. xs ++ u) (append_assoc ys zs end)
+
+pub ruleset counts = (term_count, array_count, form_count)

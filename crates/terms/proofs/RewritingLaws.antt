@@ -1,15 +1,14 @@
 -- What is made node by node is the formula in which names are replaced.
-use Rattle.std.proofs.Common.{◌≡◌, ℕ, ◌+◌, List, [], ◌∷◌, ◌++◌, refl, sym, ap, ap₂, ◌∙◌, append_assoc}
-use Rattle.terms.specs.declared.sym.Sym.{Sym}
+use Rattle.std.proofs.Common.{◌≡◌, ℕ, ◌+◌, List, [], ◌∷◌, ◌++◌, refl, ap, ap₂, ◌∙◌, append_assoc}
 use Rattle.terms.specs.declared.node.Node.{Node}
 use Rattle.terms.specs.declared.node.NodeKind.{NodeKind}
 use Rattle.terms.specs.declared.node.NodeKind.TheVariants as kind
 use Rattle.terms.specs.Trees.{TermTree, number, name, plus, minus, times, divided, remainder, read, truth, ArrayTree, array, stored, FormTree, always, never, at_most, equal, denied, both, either}
-use Rattle.terms.specs.Nodes.{node, term_size, array_size, form_size, term_nodes, array_nodes, form_nodes}
+use Rattle.terms.specs.Nodes.{node, term_size, array_size, form_size, term_nodes, array_nodes, form_nodes, term_in, array_in, form_in}
 use Rattle.terms.specs.Replacing.{Change, replaced_term, replaced_array, replaced_form}
-use Rattle.terms.specs.Code.Operands.{end_size, before_last}
+use Rattle.terms.specs.Code.Operands.{end_size, before_last, IsTerm, IsArray, IsForm}
 use Rattle.terms.specs.Code.Rewriting.{operands_size, put_operator, put_node, put_nodes}
-use Rattle.terms.proofs.OperandLaws.{last_term, last_array, last_form, term_end, array_end, form_end}
+use Rattle.terms.proofs.OperandLaws.{is_term, is_array, is_form, last_term, last_form, term_end, array_end, form_end}
 
 module _ (c : Change) where
   pub put_nodes-append : (done ms ns : List Node) → put_nodes c done (ms ++ ns) ≡ put_nodes c (put_nodes c done ms) ns
@@ -59,6 +58,7 @@ module _ (c : Change) where
 
   mutual
     unfolding put_node put_operator operands_size
+
     pub term_put : (done : List Node) (t : TermTree) → put_nodes c done (term_nodes t) ≡ done ++ term_nodes (replaced_term c t)
     term_put done (number z) = refl
     term_put done (name x) = refl
@@ -98,3 +98,14 @@ module _ (c : Change) where
         (form_put done f) (form_put (done ++ form_nodes (replaced_form c f)) g) (form_end done (replaced_form c f)) (last_form (done ++ form_nodes (replaced_form c f)) (replaced_form c g)).0 (form_end (done ++ form_nodes (replaced_form c f)) (replaced_form c g))
     form_put done (either f g) = binary done (form_nodes f) (form_nodes g) (form_nodes (replaced_form c f)) (form_nodes (replaced_form c g)) kind.Or (1 + (form_size f + form_size g)) (form_size (replaced_form c f)) (form_size (replaced_form c g)) (λ xs. refl)
         (form_put done f) (form_put (done ++ form_nodes (replaced_form c f)) g) (form_end done (replaced_form c f)) (last_form (done ++ form_nodes (replaced_form c f)) (replaced_form c g)).0 (form_end (done ++ form_nodes (replaced_form c f)) (replaced_form c g))
+
+-- ---- formulas made node by node
+
+pub term_made : (c : Change) (t : TermTree) (nodes : List Node) → nodes ≡ put_nodes c [] (term_nodes t) → IsTerm nodes × (term_in nodes ≡ replaced_term c t)
+term_made c t nodes h = is_term (replaced_term c t) nodes (h ∙ term_put c [] t)
+
+pub array_made : (c : Change) (a : ArrayTree) (nodes : List Node) → nodes ≡ put_nodes c [] (array_nodes a) → IsArray nodes × (array_in nodes ≡ replaced_array c a)
+array_made c a nodes h = is_array (replaced_array c a) nodes (h ∙ array_put c [] a)
+
+pub form_made : (c : Change) (f : FormTree) (nodes : List Node) → nodes ≡ put_nodes c [] (form_nodes f) → IsForm nodes × (form_in nodes ≡ replaced_form c f)
+form_made c f nodes h = is_form (replaced_form c f) nodes (h ∙ form_put c [] f)

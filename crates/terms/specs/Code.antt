@@ -5,3 +5,4 @@ pub mod EqualityLaws
 pub mod Operands
 pub mod Rewriting
 pub mod Operations
+pub mod Occurrences

@@ -98,10 +98,7 @@ fn value(term: &TermRef, at: &Valuation) -> Option<i128>
     match term.view() {
         TermView::Num(number) => small(number),
         TermView::Of(name) => small(at.number(name)?),
-        TermView::Add(left, right) => Operation::Sum.apply(
-            value(&left, at)?,
-            value(&right, at)?,
-        ),
+        TermView::Add(left, right) => Operation::Sum.apply(value(&left, at)?, value(&right, at)?),
         TermView::Sub(left, right) => Operation::Difference.apply(
             value(&left, at)?,
             value(&right, at)?,

@@ -30,7 +30,8 @@ fn operands_size(kind: &NodeKind, nodes: &[Node]) -> usize
     ensures small { result < 2 ^ 34 }
 {
     match kind {
-        NodeKind::Num(_) | NodeKind::Of(_) | NodeKind::Base(_) | NodeKind::True | NodeKind::False => 0,
+        NodeKind::Num(_) | NodeKind::Of(_) | NodeKind::Base(_) | NodeKind::True | NodeKind::False =>
+            0,
         NodeKind::Truth | NodeKind::Not => end_size(nodes),
         NodeKind::Store => {
             let (front, _) = apart(nodes);
@@ -100,7 +101,7 @@ fn array_for<'a>(by: &Replacement<'a>, symbol: &Sym) -> Option<&'a ArrayTerm>
 }
 
 // Whether the name is the bound one.
-fn is_bound(bound: Option<&Sym>, symbol: &Sym) -> bool
+pub(crate) fn is_bound(bound: Option<&Sym>, symbol: &Sym) -> bool
     ensures { result ≡ is_bound (option_copied bound.entry) symbol.now }
 {
     match bound {
@@ -199,4 +200,128 @@ fn replaced_nodes(
         put_node(alloc, &mut out, &node.kind, by, bound)?;
     }
     Ok(out)
+}
+
+fn replaced_in_term(
+    alloc: Global,
+    term: &Term,
+    by: &Replacement,
+    bound: Option<&Sym>,
+) -> Result<Term, AllocError>
+    ensures { IfOk result (λ made. made
+        ≡ replaced_term (change_below (option_copied bound.entry) (change_of by.now)) term.now) }
+{
+    Ok(Term::from_nodes(replaced_nodes(alloc, term.nodes(), by, bound)?))
+}
+
+fn replaced_in_form(
+    alloc: Global,
+    form: &Form,
+    by: &Replacement,
+    bound: Option<&Sym>,
+) -> Result<Form, AllocError>
+    ensures { IfOk result (λ made. made
+        ≡ replaced_form (change_below (option_copied bound.entry) (change_of by.now)) form.now) }
+{
+    Ok(Form::from_nodes(replaced_nodes(alloc, form.nodes(), by, bound)?))
+}
+
+fn replaced_in_fact(alloc: Global, fact: &Fact, by: &Replacement) -> Result<Fact, AllocError>
+    ensures { IfOk result (λ made. made ≡ replaced_fact (change_of by.now) fact.now) }
+{
+    match fact {
+        Fact::Plain(form) => Ok(Fact::Plain(replaced_in_form(alloc, form, by, None)?)),
+        Fact::All { var, lo, hi, body } => {
+            let lo = replaced_in_term(alloc, lo, by, None)?;
+            let hi = replaced_in_term(alloc, hi, by, None)?;
+            let body = replaced_in_form(alloc, body, by, Some(var))?;
+            Ok(Fact::All {
+                var: var.copy(alloc)?,
+                lo,
+                hi,
+                body,
+            })
+        }
+    }
+}
+
+/// The form with `by` wherever `name` stands as a number. It is true exactly where `form` is true
+/// of what `by` is worth for `name`.
+pub fn subst(alloc: Global, form: &Form, name: &Sym, by: &Term) -> Result<Form, AllocError>
+    ensures replaced { IfOk result (λ made. made ≡ replaced_form (number_by name.now by.now) form.now) }
+    ensures truth { IfOk result (λ made. (v : Interpretation) →
+        form_at v made ≡ form_at (with_value v name.now (term_at v by.now)) form.now) }
+{
+    replaced_in_form(alloc, form, &Replacement::Number(name, by), None)
+}
+
+/// The form with `by` wherever `name` stands as an array. It is true exactly where `form` is true
+/// of what `by` holds for `name`.
+pub fn subst_row(alloc: Global, form: &Form, name: &Sym, by: &ArrayTerm) -> Result<Form, AllocError>
+    ensures replaced { IfOk result (λ made. made ≡ replaced_form (array_by name.now by.now) form.now) }
+    ensures truth { IfOk result (λ made. (v : Interpretation) →
+        form_at v made ≡ form_at (with_array v name.now (array_at v by.now)) form.now) }
+{
+    replaced_in_form(alloc, form, &Replacement::Array(name, by), None)
+}
+
+/// The form in which many names are replaced, all at once. It is true exactly where `form` is true
+/// of what stands in for each name.
+pub fn subst_all(alloc: Global, form: &Form, by: &Changes) -> Result<Form, AllocError>
+    ensures replaced { IfOk result (λ made. made ≡ replaced_form (change_in by.now) form.now) }
+    ensures truth { IfOk result (λ made. (v : Interpretation) →
+        form_at v made ≡ form_at (changed (change_in by.now) v) form.now) }
+{
+    replaced_in_form(alloc, form, &Replacement::Many(by), None)
+}
+
+/// The term in which many names are replaced, all at once. It is worth what `term` is worth of what
+/// stands in for each name.
+pub fn subst_term_all(alloc: Global, term: &Term, by: &Changes) -> Result<Term, AllocError>
+    ensures replaced { IfOk result (λ made. made ≡ replaced_term (change_in by.now) term.now) }
+    ensures worth { IfOk result (λ made. (v : Interpretation) →
+        term_at v made ≡ term_at (changed (change_in by.now) v) term.now) }
+{
+    replaced_in_term(alloc, term, &Replacement::Many(by), None)
+}
+
+/// The fact with `by` wherever `name` stands free as a number. The bound name stays, and `by` may
+/// not have it, for which `Fact::captures` is the test. What is made is true exactly where `fact`
+/// is true of what `by` is worth for `name`.
+pub fn subst_fact(alloc: Global, fact: &Fact, name: &Sym, by: &Term) -> Result<Fact, AllocError>
+    requires { captures fact.now (term_names by.now) ≡ false }
+    ensures replaced { IfOk result (λ made. made ≡ replaced_fact (number_by name.now by.now) fact.now) }
+    ensures truth { IfOk result (λ made. (v : Interpretation) →
+        FactAt v made ↔ FactAt (with_value v name.now (term_at v by.now)) fact.now) }
+{
+    replaced_in_fact(alloc, fact, &Replacement::Number(name, by))
+}
+
+/// The fact with `by` wherever `name` stands as an array. `by` may not have the bound name, for
+/// which `Fact::captures_row` is the test. What is made is true exactly where `fact` is true of
+/// what `by` holds for `name`.
+pub fn subst_fact_row(
+    alloc: Global,
+    fact: &Fact,
+    name: &Sym,
+    by: &ArrayTerm,
+) -> Result<Fact, AllocError>
+    requires { captures fact.now (array_names by.now) ≡ false }
+    ensures replaced { IfOk result (λ made. made ≡ replaced_fact (array_by name.now by.now) fact.now) }
+    ensures truth { IfOk result (λ made. (v : Interpretation) →
+        FactAt v made ↔ FactAt (with_array v name.now (array_at v by.now)) fact.now) }
+{
+    replaced_in_fact(alloc, fact, &Replacement::Array(name, by))
+}
+
+/// The fact in which many names are replaced, all at once. The bound name stays, and nothing that is
+/// put in may have it. What is made is true exactly where `fact` is true of what stands in for each
+/// name.
+pub fn subst_fact_all(alloc: Global, fact: &Fact, by: &Changes) -> Result<Fact, AllocError>
+    requires { Avoids (change_in by.now) fact.now }
+    ensures replaced { IfOk result (λ made. made ≡ replaced_fact (change_in by.now) fact.now) }
+    ensures truth { IfOk result (λ made. (v : Interpretation) →
+        FactAt v made ↔ FactAt (changed (change_in by.now) v) fact.now) }
+{
+    replaced_in_fact(alloc, fact, &Replacement::Many(by))
 }

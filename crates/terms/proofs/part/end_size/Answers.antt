@@ -1,4 +1,4 @@
-use Rattle.std.proofs.Common.{◌≡◌, ◌∙◌, ap, sym}
+use Rattle.std.proofs.Common.{◌∙◌, ap, sym}
 use Rattle.terms.specs.Code.Operands.{end_size}
 use Rattle.terms.proofs.OperandLaws.{end_size-last}
 use Rattle.terms.proofs.part.end_size.Goals as goal
