@@ -13,7 +13,7 @@ use Rattle.formula_texts.specs.declared.token.Token.{Token}
 use Rattle.formula_texts.specs.Tokens.{plain_token, dollar_token, count_token, pair_token, single_token, byte_token, number_in, IsToken, IsGap, AreTokens}
 use Rattle.formula_texts.specs.Tokens as text
 use Rattle.formula_texts.specs.Grammar.{◌>>=◌}
-use Rattle.formula_texts.specs.Code.Lexing.{Cut, cut_by, mark_by, run_at, piece_by, kept, lexed, tokens_in}
+use Rattle.formula_texts.specs.Code.Lexing.{Cut, cut_by, mark_by, run_at, piece_by, piece_at, kept, lexed, tokens_in}
 use Rattle.formula_texts.proofs.OperatorLaws.{bind_some}
 
 -- ---- the first byte chooses
@@ -81,10 +81,6 @@ unfolding piece_by
 at_apostrophe rest = refl
 
 -- ---- what a text has is cut
-
-abbrev piece_at : Bytes → Option Cut
-piece_at [] = None
-piece_at (byte ∷ rest) = piece_by byte rest
 
 cut_size : (t : Token) (m n : ℕ) → m ≡ n → cut_by m (Some t) ≡ Some (Some t, n)
 cut_size t m n e = ap (λ (k : ℕ). Some (Some t, k)) e

@@ -1,5 +1,7 @@
 pub mod Complete
 pub mod LexLaws
+pub mod LexTurns
+pub mod NumberLaws
 pub mod OperatorLaws
 pub mod Sound
 pub mod TokenLaws

@@ -2,6 +2,7 @@
 //! written is read back.
 #![tactic(auto)]
 
+mod lexer;
 pub mod size;
 pub mod stop;
 pub mod token;

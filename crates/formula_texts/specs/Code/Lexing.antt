@@ -1,11 +1,23 @@
 -- Cutting a text into tokens.
-use Rattle.std.specs.Prelude.{ℕ, zero, suc, ◌+◌, ◌&&◌, ◌==◌, if◌then◌else◌, List, [], ◌∷◌, ◌++◌, take, drop, slice_index, length, Option, Some, None}
+use Rattle.std.specs.Prelude.{ℕ, zero, suc, Bool,  ◌+◌, ◌-◌, ◌*◌, nat_le, nat_lt, ◌||◌, ◌&&◌, ◌==◌, if◌then◌else◌, List, [], ◌∷◌, ◌++◌, take, drop, slice_index, length, Option, Some, None}
 use Rattle.std.specs.List.{prefix_len}
-use Rattle.c_lang.specs.Names.{Bytes}
+use Rattle.c_lang.specs.Names.{Bytes, is_digit}
 use Rattle.c_grammar.specs.Bytes.{slash, is_white, is_in_line, is_in_word}
 use Rattle.formula_texts.specs.declared.token.Token.{Token}
 use Rattle.formula_texts.specs.Tokens.{dollar, apostrophe, plain_token, dollar_token, count_token, pair_token, single_token}
 use Rattle.formula_texts.specs.Grammar.{◌>>=◌}
+
+-- the number that the digits go on to, where it stays within the limit
+abbrev pub value_from : ℕ → ℕ → Bytes → Option ℕ
+value_from limit front [] = Some front
+value_from limit front (byte ∷ bytes) =
+    if is_digit byte && nat_le (front * 10 + (byte - 48)) limit then value_from limit (front * 10 + (byte - 48)) bytes else None
+
+abbrev pub has_leading_zero : Bytes → Bool
+has_leading_zero digits = nat_lt 1 (length digits) && slice_index digits 0 == 48
+
+abbrev pub number_of : ℕ → Bytes → Option ℕ
+number_of limit digits = if length digits == 0 || has_leading_zero digits then None else value_from limit 0 digits
 
 -- a token or a gap, and how many bytes it has
 abbrev pub Cut : Type 0
@@ -30,6 +42,10 @@ piece_by byte rest =
     (if is_in_word byte then run_at plain_token 0 (byte ∷ rest) else
     (if byte == dollar then run_at dollar_token 1 rest else
     (if byte == apostrophe then run_at count_token 1 rest else mark_by byte (slice_index rest 0) (pair_token byte (slice_index rest 0))))))
+
+abbrev pub piece_at : Bytes → Option Cut
+piece_at [] = None
+piece_at (byte ∷ rest) = piece_by byte rest
 
 abbrev pub kept : Option Token → List Token → List Token
 kept None ts = ts
