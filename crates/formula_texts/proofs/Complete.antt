@@ -17,13 +17,13 @@ use Rattle.formula_texts.specs.declared.value.Value.TheVariants as value
 use Rattle.formula_texts.specs.declared.size.Size.{Size}
 use Rattle.formula_texts.specs.Grammar as grammar
 use Rattle.formula_texts.specs.Grammar.{NameText, plain, counted, Tree, number, negative, null, always, never, name, element, truth, brackets, quotient, remainder, negation, denial, joined, Row, array, stored, name_tokens, tokens_of, row_tokens, level, binds, IsGrouped, IsGroupedRow, size_of, row_size, ◌>>=◌, sym_of, apply, value_of, row_of}
-use Rattle.formula_texts.specs.Code.Reading.{Found, FoundRow, Parse, ParseRow, after, name_after, next_operator, join, index_at, array_leaf, named, named_by, store_at, operand, array_at, more_by, more, Readers, readers}
+use Rattle.formula_texts.specs.Code.Reading.{Found, FoundRow, Parse, ParseRow, after, count_after, next_operator, join, index_at, array_leaf, named, named_by, store_at, operand, array_at, more_by, more, Readers, readers}
 use Rattle.formula_texts.proofs.OperatorLaws.{level_small, level_positive, level_apart, bind_some}
 
 -- what may stand behind a form or a term whose outermost operator binds so tightly
 pub record Follows (l : ℕ) (rest : List Token) : Type 0 where
   pub no_index : after mark.SquareOpen rest ≡ None
-  pub no_count : (x : Bytes) → name_after x rest ≡ (record { base = x; count = 0 }, rest)
+  pub no_count : count_after rest ≡ (0, rest)
   pub looser : IfSome (next_operator rest) (λ x. level x.0 ≤ l)
 
 abbrev pub found : Tree → Value → List Token → Found
@@ -128,7 +128,7 @@ module _ (inner : ℕ → Parse) (inner_row : ParseRow) where
 
   read_name : (m : ℕ) (x : NameText) (l : ℕ) (rest : List Token) → Follows l rest → operand inner inner_row m (name_tokens x ++ rest) ≡ Some (found (name x) (value.Term (tree.name (sym_of x))) rest)
   unfolding operand
-  read_name m (plain x) l rest f = rw (f.no_count x, f.no_index) refl
+  read_name m (plain x) l rest f = rw (f.no_count, f.no_index) refl
   read_name m (counted x n) l rest f = rw f.no_index refl
 
   index_is : (a : Row) (i : Tree) (v : ArrayTree) (w made : Value) (rest more : List Token) → inner 1 (tokens_of i ++ token.Mark mark.SquareClose ∷ rest) ≡ Some (found i w (token.Mark mark.SquareClose ∷ rest))
@@ -206,9 +206,9 @@ module _ (inner : ℕ → Parse) (inner_row : ParseRow) where
 
   -- ---- arrays
 
-  read_array : (x : NameText) (rest : List Token) → ((b : Bytes) → name_after b rest ≡ (record { base = b; count = 0 }, rest)) → array_at inner inner_row (name_tokens x ++ rest) ≡ Some (found_row (array x) (tree.array (sym_of x)) rest)
+  read_array : (x : NameText) (rest : List Token) → count_after rest ≡ (0, rest) → array_at inner inner_row (name_tokens x ++ rest) ≡ Some (found_row (array x) (tree.array (sym_of x)) rest)
   unfolding array_at
-  read_array (plain x) rest f = rw (f x) refl
+  read_array (plain x) rest f = rw f refl
   read_array (counted x n) rest f = refl
 
   read_stored : (a : Row) (i t : Tree) (v made : ArrayTree) (x y : Value) (rest : List Token) → let c = token.Mark mark.Comma in let z = token.Mark mark.RoundClose in
@@ -258,7 +258,7 @@ goes_on a b o x y made d m rest out least high right is h (suc k) lt =
 
 -- behind a part that a mark closes
 at_mark : (m : Mark) (l : ℕ) (rest : List Token) → after mark.SquareOpen (token.Mark m ∷ rest) ≡ None → Follows l (token.Mark m ∷ rest)
-at_mark m l rest e = record { no_index = e; no_count = λ x. refl; looser = tt }
+at_mark m l rest e = record { no_index = e; no_count = refl; looser = tt }
 
 stops_at_3 : (o : Option (Operator × List Token)) → IfSome o (λ x. level x.0 ≤ 3) → IfSome o (λ x. level x.0 < 3)
 stops_at_3 None h = tt
@@ -292,7 +292,7 @@ mutual
       let b = bind_some (value_of i) (grammar.element_of r.0) v r.2 in
       begins d m _ (found (element (stored a j t) i) v rest)
       (read_stored_element (expr d) (row d) m a j t i r.0 b.0 v rest
-        (reads_row (stored a j t) r.0 d _ g.0 r.1 (omega arith) (λ x. refl))
+        (reads_row (stored a j t) r.0 d _ g.0 r.1 (omega arith) refl)
         (reads i b.0 d 1 (token.Mark mark.SquareClose ∷ rest) (Some (found i b.0 (token.Mark mark.SquareClose ∷ rest))) g.1 b.1 (omega arith) (binds_something i) (at_mark mark.SquareClose (binds i) rest refl) (ends_at i b.0 d mark.SquareClose rest)) b.2) ∙ h (suc d) (omega arith)
   reads (truth t) v (suc d) m rest out g e high least f h =
       let b = bind_some (value_of t) grammar.truth_of v e in
@@ -329,12 +329,12 @@ mutual
       let y = bind_some (value_of b) (apply o x.0) v x.2 in
       let right = reads b y.0 d (level o + 1) rest (Some (found b y.0 rest)) g.3 y.1 (omega arith) (omega (arith, g.1)) (follows_mono (level o) (binds b) rest (omega (arith, g.1)) f)
       (λ k lt. closes (below d) (below_row d) k d (level o + 1) (found b y.0 rest) (stops_at (level o) (next_operator rest) f.looser)) in
-      let whole = reads a x.0 (suc d) m after_a out g.2 x.1 (omega arith) (omega (arith, g.0)) (record { no_index = refl; no_count = λ b. refl; looser = g.0 })
+      let whole = reads a x.0 (suc d) m after_a out g.2 x.1 (omega arith) (omega (arith, g.0)) (record { no_index = refl; no_count = refl; looser = g.0 })
       (goes_on a b o x.0 y.0 v d m rest out least high right y.2 h) in
       ap (expr (suc d) m) (append_assoc (tokens_of a) (token.Operator o ∷ tokens_of b) rest) ∙ whole
 
   pub reads_row : (a : Row) (v : ArrayTree) (d : ℕ) (rest : List Token) → IsGroupedRow a → row_of a ≡ Some v → (row_size a).height ≤ d
-      → ((b : Bytes) → name_after b rest ≡ (record { base = b; count = 0 }, rest)) → row d (row_tokens a ++ rest) ≡ Some (found_row a v rest)
+      → count_after rest ≡ (0, rest) → row d (row_tokens a ++ rest) ≡ Some (found_row a v rest)
   reads_row (array x) v zero rest g e high f = let never : ⊥ = omega arith in absurd never
   reads_row (array x) v (suc d) rest g e high f =
       row_begins d _ ∙ read_array (expr d) (row d) x rest f ∙ ap (λ (o : Option ArrayTree). o >>= λ w. Some (found_row (array x) w rest)) e
@@ -346,6 +346,6 @@ mutual
       let after_i = tokens_of t ++ token.Mark mark.RoundClose ∷ rest in
       row_begins d _
       ∙ read_stored (expr d) (row d) a i t r.0 v x.0 y.0 rest
-      (reads_row a r.0 d _ g.0 r.1 (omega arith) (λ b. refl))
+      (reads_row a r.0 d _ g.0 r.1 (omega arith) refl)
       (reads i x.0 d 1 (token.Mark mark.Comma ∷ after_i) (Some (found i x.0 (token.Mark mark.Comma ∷ after_i))) g.1 x.1 (omega arith) (binds_something i) (at_mark mark.Comma (binds i) after_i refl) (ends_at i x.0 d mark.Comma after_i))
       (reads t y.0 d 1 (token.Mark mark.RoundClose ∷ rest) (Some (found t y.0 (token.Mark mark.RoundClose ∷ rest))) g.2 y.1 (omega arith) (binds_something t) (at_mark mark.RoundClose (binds t) rest refl) (ends_at t y.0 d mark.RoundClose rest)) y.2

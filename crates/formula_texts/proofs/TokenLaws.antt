@@ -51,7 +51,7 @@ pub record AreOf (ts : List Token) (x : Value) : Type 0 where
 read_whole : (t : Tree) (v : Value) (d : ℕ) → IsGrouped t → value_of t ≡ Some v → (size_of t).height ≤ d → expr d 1 (tokens_of t) ≡ Some (found t v [])
 read_whole t v d g e high =
     ap (expr d 1) (sym (append-nil (tokens_of t)))
-    ∙ reads t v d 1 [] (Some (found t v [])) g e high (binds_something t) (record { no_index = refl; no_count = λ x. refl; looser = tt })
+    ∙ reads t v d 1 [] (Some (found t v [])) g e high (binds_something t) (record { no_index = refl; no_count = refl; looser = tt })
     (λ k lt. closes (below d) (below_row d) k d 1 (found t v []) tt)
 
 small_again : (s : Size) → IsSmall s → is_small s ≡ true

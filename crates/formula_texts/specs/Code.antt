@@ -1,3 +1,4 @@
 -- Definitions that mirror the code.
 pub mod Lexing
 pub mod Reading
+pub mod Seen

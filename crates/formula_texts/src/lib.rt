@@ -2,6 +2,8 @@
 //! written is read back.
 #![tactic(auto)]
 
+mod found;
+mod front;
 mod lexer;
 pub mod size;
 pub mod stop;

@@ -3,7 +3,7 @@ use Rattle.std.specs.Prelude.{⊤, ◌≡◌, ℕ, ℤ, pos, neg_ℤ, zero, suc,
 use Rattle.c_lang.specs.Names.{Bytes}
 use Rattle.terms.specs.declared.sym.Sym.{Sym}
 use Rattle.terms.specs.Trees as tree
-use Rattle.terms.specs.Trees.{ArrayTree}
+use Rattle.terms.specs.Trees.{TermTree, ArrayTree, FormTree}
 use Rattle.formula_texts.specs.declared.token.Token.{Token}
 use Rattle.formula_texts.specs.declared.token.Token.TheVariants as token
 use Rattle.formula_texts.specs.declared.token.Operator.{Operator}
@@ -65,14 +65,18 @@ abbrev pub after : Mark → List Token → Option (List Token)
 after m [] = None
 after m (t ∷ ts) = mark_by m t ts
 
-abbrev pub counted_by : Bytes → List Token → Token → List Token → Sym × List Token
-counted_by x ts (token.Count n) rest = (record { base = x; count = n }, rest)
-counted_by x ts _ rest = (record { base = x; count = 0 }, ts)
+abbrev pub count_by : Token → List Token → ℕ × List Token
+count_by (token.Count n) ts = (n, ts)
+count_by t ts = (0, t ∷ ts)
+
+-- the count behind a base, and the rest
+abbrev pub count_after : List Token → ℕ × List Token
+count_after [] = (0, [])
+count_after (t ∷ ts) = count_by t ts
 
 -- a name whose base stands before the tokens, and the rest
 abbrev pub name_after : Bytes → List Token → Sym × List Token
-name_after x [] = (record { base = x; count = 0 }, [])
-name_after x (t ∷ ts) = counted_by x (t ∷ ts) t ts
+name_after x ts = (record { base = x; count = (count_after ts).0 }, (count_after ts).1)
 
 abbrev pub natural : ℤ → Option ℤ
 natural (pos n) = Some (pos n)
@@ -95,6 +99,16 @@ next_operator [] = None
 next_operator (t ∷ ts) = next_by (operator_of t) ts
 
 -- ---- what is made of the parts
+
+abbrev pub two_terms : Value → Value → Option (TermTree × TermTree)
+two_terms (value.Term t) (value.Term u) = Some (t, u)
+two_terms (value.Term t) (value.Form g) = None
+two_terms (value.Form f) y = None
+
+abbrev pub two_forms : Value → Value → Option (FormTree × FormTree)
+two_forms (value.Form f) (value.Form g) = Some (f, g)
+two_forms (value.Form f) (value.Term u) = None
+two_forms (value.Term t) y = None
 
 abbrev pub leaf : Value → List Token → Found
 leaf x ts = record { value = x; size = leaf_size; rest = ts }
