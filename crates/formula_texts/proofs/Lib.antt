@@ -3,5 +3,6 @@ pub mod LexLaws
 pub mod LexTurns
 pub mod NumberLaws
 pub mod OperatorLaws
+pub mod ReadingTurns
 pub mod Sound
 pub mod TokenLaws

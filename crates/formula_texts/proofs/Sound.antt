@@ -18,7 +18,7 @@ use Rattle.formula_texts.specs.declared.value.Value.TheVariants as value
 use Rattle.formula_texts.specs.declared.size.Size.{Size}
 use Rattle.formula_texts.specs.Grammar as grammar
 use Rattle.formula_texts.specs.Grammar.{NameText, plain, counted, Tree, number, negative, null, always, never, name, element, truth, brackets, quotient, remainder, negation, denial, joined, Row, array, stored, name_tokens, tokens_of, row_tokens, level, binds, IsGrouped, IsGroupedRow, grown, larger, size_of, row_size, ◌>>=◌, sym_of, of_terms, apply, value_of, row_of}
-use Rattle.formula_texts.specs.Code.Reading.{Found, FoundRow, Parse, ParseRow, after, natural, numbered, name_after, next_operator, leaf, number_leaf, around, closed, pair, indexed, store, array_leaf, join, index_at, named_by, named, bracket_by, bracket, store_at, element_at, sign_by, operator_by, open_by, truth_at, not_at, operand_by, operand, array_by, array_at, more_by, more, Readers, readers}
+use Rattle.formula_texts.specs.Code.Reading.{Found, FoundRow, Parse, ParseRow, after, natural, numbered, name_after, next_operator, leaf, number_leaf, around, closed, pair, indexed, store, array_leaf, join, index_at, named_by, named, bracket_by, bracket, store_at, element_at, negative_leaf, operator_by, open_by, truth_at, not_at, operand_by, operand, array_by, array_at, more_by, more, Readers, readers}
 use Rattle.formula_texts.proofs.OperatorLaws.{level_small, bind_some, after-is, next-is}
 use Rattle.formula_texts.proofs.Complete.{height_positive, expr, row}
 
@@ -313,7 +313,7 @@ module _ (inner : ℕ → Parse) (inner_row : ParseRow) (d : ℕ) (reads : Reads
         size_is = ap (grown 1 1) i.size_is;
       })
 
-  sign-read : (ts : List Token) (x : Found) → sign_by inner inner_row ts ≡ Some x → IsPart (suc d) 7 (token.Operator op.TightMinus ∷ ts) x
+  sign-read : (ts : List Token) (x : Found) → negative_leaf ts ≡ Some x → IsPart (suc d) 7 (token.Operator op.TightMinus ∷ ts) x
   sign-read [] x q = absurd cc
   sign-read (t ∷ ts) x q =
       let a = bind_some (numbered t) (λ z. number_leaf ts (neg_ℤ z)) x q in

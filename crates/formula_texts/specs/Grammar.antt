@@ -165,21 +165,25 @@ abbrev pub sym_of : NameText → Sym
 sym_of (plain x) = record { base = x; count = 0 }
 sym_of (counted x n) = record { base = x; count = n }
 
+abbrev pub term_in : Value → Option TermTree
+term_in (value.Term t) = Some t
+term_in (value.Form f) = None
+
+abbrev pub form_in : Value → Option FormTree
+form_in (value.Form f) = Some f
+form_in (value.Term t) = None
+
 abbrev pub of_term : (TermTree → Value) → Value → Option Value
-of_term f (value.Term t) = Some (f t)
-of_term f (value.Form g) = None
+of_term f x = term_in x >>= λ t. Some (f t)
 
 abbrev pub of_form : (FormTree → Value) → Value → Option Value
-of_form f (value.Form g) = Some (f g)
-of_form f (value.Term t) = None
+of_form f x = form_in x >>= λ g. Some (f g)
 
 abbrev pub of_terms : (TermTree → TermTree → Value) → Value → Value → Option Value
-of_terms f (value.Term t) y = of_term (f t) y
-of_terms f (value.Form g) y = None
+of_terms f x y = term_in x >>= λ t. term_in y >>= λ u. Some (f t u)
 
 abbrev pub of_forms : (FormTree → FormTree → Value) → Value → Value → Option Value
-of_forms f (value.Form g) y = of_form (f g) y
-of_forms f (value.Term t) y = None
+of_forms f x y = form_in x >>= λ g. form_in y >>= λ h. Some (f g h)
 
 abbrev pub term : (TermTree → TermTree → TermTree) → TermTree → TermTree → Value
 term f t u = value.Term (f t u)
@@ -217,9 +221,7 @@ abbrev pub denied : Value → Option Value
 denied = of_form (λ f. value.Form (tree.denied f))
 
 abbrev pub stored_of : ArrayTree → Value → Value → Option ArrayTree
-stored_of a (value.Term i) (value.Term t) = Some (tree.stored a i t)
-stored_of a (value.Term i) (value.Form g) = None
-stored_of a (value.Form f) y = None
+stored_of a x y = term_in x >>= λ i. term_in y >>= λ t. Some (tree.stored a i t)
 
 -- A tree stands for a form or a term, if its parts are forms and terms where they have to be.
 abbrev mutual

@@ -2,9 +2,11 @@
 //! written is read back.
 #![tactic(auto)]
 
+mod apply;
 mod found;
 mod front;
 mod lexer;
+mod reader;
 pub mod size;
 pub mod stop;
 pub mod token;

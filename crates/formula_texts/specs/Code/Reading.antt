@@ -3,7 +3,7 @@ use Rattle.std.specs.Prelude.{⊤, ◌≡◌, ℕ, ℤ, pos, neg_ℤ, zero, suc,
 use Rattle.c_lang.specs.Names.{Bytes}
 use Rattle.terms.specs.declared.sym.Sym.{Sym}
 use Rattle.terms.specs.Trees as tree
-use Rattle.terms.specs.Trees.{TermTree, ArrayTree, FormTree}
+use Rattle.terms.specs.Trees.{ArrayTree}
 use Rattle.formula_texts.specs.declared.token.Token.{Token}
 use Rattle.formula_texts.specs.declared.token.Token.TheVariants as token
 use Rattle.formula_texts.specs.declared.token.Operator.{Operator}
@@ -100,21 +100,19 @@ next_operator (t ∷ ts) = next_by (operator_of t) ts
 
 -- ---- what is made of the parts
 
-abbrev pub two_terms : Value → Value → Option (TermTree × TermTree)
-two_terms (value.Term t) (value.Term u) = Some (t, u)
-two_terms (value.Term t) (value.Form g) = None
-two_terms (value.Form f) y = None
-
-abbrev pub two_forms : Value → Value → Option (FormTree × FormTree)
-two_forms (value.Form f) (value.Form g) = Some (f, g)
-two_forms (value.Form f) (value.Term u) = None
-two_forms (value.Term t) y = None
-
 abbrev pub leaf : Value → List Token → Found
 leaf x ts = record { value = x; size = leaf_size; rest = ts }
 
 abbrev pub number_leaf : List Token → ℤ → Option Found
 number_leaf ts z = Some (leaf (value.Term (tree.number z)) ts)
+
+abbrev pub natural_leaf : ℤ → List Token → Option Found
+natural_leaf z ts = natural z >>= number_leaf ts
+
+-- a number behind its sign
+abbrev pub negative_leaf : List Token → Option Found
+negative_leaf [] = None
+negative_leaf (t ∷ ts) = numbered t >>= λ z. number_leaf ts (neg_ℤ z)
 
 -- so many brackets and operators more, around a value that is made of the one that was found
 abbrev pub around : ℕ → ℕ → (Value → Option Value) → Found → Option Found
@@ -176,17 +174,16 @@ module _ (inner : ℕ → Parse) (inner_row : ParseRow) where
   abbrev pub element_at : List Token → Option Found
   element_at ts = inner_row ts >>= λ a. after mark.SquareOpen a.rest >>= index_at a
 
-  abbrev pub sign_by : List Token → Option Found
-  sign_by [] = None
-  sign_by (t ∷ ts) = numbered t >>= λ z. number_leaf ts (neg_ℤ z)
-
   abbrev pub operator_by : Operator → List Token → Option Found
   operator_by op.Minus ts = inner sign_level ts >>= around 0 1 negated
-  operator_by op.TightMinus ts = sign_by ts
+  operator_by op.TightMinus ts = negative_leaf ts
   operator_by _ ts = None
 
+  abbrev pub bracket_at : List Token → Option Found
+  bracket_at ts = inner 1 ts >>= bracket
+
   abbrev pub open_by : Mark → List Token → Option Found
-  open_by mark.RoundOpen ts = inner 1 ts >>= bracket
+  open_by mark.RoundOpen ts = bracket_at ts
   open_by _ ts = None
 
   abbrev pub truth_at : List Token → Option Found
@@ -196,7 +193,7 @@ module _ (inner : ℕ → Parse) (inner_row : ParseRow) where
   not_at m ts = if nat_lt not_level m then None else (inner not_level ts >>= around 0 1 denied)
 
   abbrev pub operand_by : ℕ → Token → List Token → Option Found
-  operand_by m (token.Number z) ts = natural z >>= number_leaf ts
+  operand_by m (token.Number z) ts = natural_leaf z ts
   operand_by m (token.Base x) ts = named (name_after x ts)
   operand_by m token.Null ts = number_leaf ts (pos 0)
   operand_by m token.True ts = Some (leaf (value.Form tree.always) ts)
