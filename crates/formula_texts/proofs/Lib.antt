@@ -6,3 +6,4 @@ pub mod OperatorLaws
 pub mod ReadingTurns
 pub mod Sound
 pub mod TokenLaws
+pub mod WholeLaws

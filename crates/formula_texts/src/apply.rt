@@ -11,7 +11,8 @@ use crate::value::Value;
 use std::alloc::Global;
 use terms::{ArrayTerm, Form, Term};
 
-fn term_in(value: Value) -> Result<Term, Stop>
+/// The term, where it is one.
+pub fn term_in(value: Value) -> Result<Term, Stop>
     ensures { Gives (λ term. term) result (grammar.term_in value) }
 {
     match value {
@@ -20,7 +21,8 @@ fn term_in(value: Value) -> Result<Term, Stop>
     }
 }
 
-fn form_in(value: Value) -> Result<Form, Stop>
+/// The form, where it is one.
+pub fn form_in(value: Value) -> Result<Form, Stop>
     ensures { Gives (λ form. form) result (grammar.form_in value) }
 {
     match value {

@@ -6,12 +6,14 @@ mod apply;
 mod found;
 mod front;
 mod lexer;
+mod read;
 mod reader;
 pub mod size;
 pub mod stop;
 pub mod token;
 pub mod value;
 
+pub use read::{read_form, read_name, read_term};
 pub use size::Size;
 pub use stop::Stop;
 pub use token::{Mark, Operator, Token};
