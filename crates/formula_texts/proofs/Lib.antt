@@ -5,5 +5,6 @@ pub mod NumberLaws
 pub mod OperatorLaws
 pub mod ReadingTurns
 pub mod Sound
+pub mod StackLaws
 pub mod TokenLaws
 pub mod WholeLaws

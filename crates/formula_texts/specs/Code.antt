@@ -3,3 +3,4 @@ pub mod Lexing
 pub mod Reading
 pub mod Seen
 pub mod Whole
+pub mod Writing

@@ -84,7 +84,8 @@ fn is_word(text: &[u8]) -> bool
     }
 }
 
-fn is_taken(word: &[u8]) -> bool
+/// Whether the word is no name.
+pub fn is_taken(word: &[u8]) -> bool
     ensures { result ≡ words.is_taken word.now }
 {
     is_same(word, b"and") || is_same(word, b"or") || is_same(word, b"not") || is_same(word, b"null")

@@ -6,13 +6,17 @@ mod apply;
 mod found;
 mod front;
 mod lexer;
+mod names;
+mod pending;
 mod read;
 mod reader;
 pub mod size;
 pub mod stop;
 pub mod token;
 pub mod value;
+mod write;
 
+pub use names::put_name;
 pub use read::{read_form, read_name, read_term};
 pub use size::Size;
 pub use stop::Stop;
