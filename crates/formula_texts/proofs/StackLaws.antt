@@ -1,5 +1,5 @@
 -- The top of a stack.
-use Rattle.std.proofs.Common.{◌≡◌, ℕ, ◌+◌, ◌<◌, List, [], ◌∷◌, ◌++◌, refl, sym, ap, ◌∙◌, append_assoc, append-nil, arith}
+use Rattle.std.proofs.Common.{◌≡◌, ℕ, ◌+◌, ◌<◌, List, [], ◌∷◌, ◌++◌, length, refl, sym, ap, ◌∙◌, append_assoc, append-nil, arith}
 use Rattle.c_lang.specs.Names.{Bytes}
 use Rattle.formula_texts.specs.declared.pending.Pending.{Pending}
 use Rattle.formula_texts.specs.Code.Writing.{pending_text, stack_text, weight, weights}
@@ -14,7 +14,7 @@ unfolding weights
 top_weight [] x = omega arith
 top_weight (y ∷ xs) x = omega (arith, top_weight xs x)
 
-pub no_text : (xs : List Pending) → xs ≡ [] → stack_text xs ≡ []
+pub nothing_left : (xs : List Pending) → length xs ≡ 0 → stack_text xs ≡ []
 unfolding stack_text
-no_text [] e = refl
-no_text (x ∷ xs) e = absurd cc
+nothing_left [] e = refl
+nothing_left (x ∷ xs) e = let never : ⊥ = omega arith in absurd never

@@ -5,6 +5,7 @@
 mod apply;
 mod found;
 mod front;
+mod laws;
 mod lexer;
 mod names;
 mod pending;
@@ -16,9 +17,11 @@ pub mod token;
 pub mod value;
 mod write;
 
+pub use laws::one_meaning;
 pub use names::put_name;
 pub use read::{read_form, read_name, read_term};
 pub use size::Size;
 pub use stop::Stop;
 pub use token::{Mark, Operator, Token};
 pub use value::Value;
+pub use write::{put_form, put_term};

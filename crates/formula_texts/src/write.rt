@@ -164,3 +164,125 @@ fn stored<'a>(
     push(stack, Pending::Text(b", "))?;
     push(stack, Pending::Array(array))
 }
+
+/// Puts a term's leaf, or its parts on the stack.
+fn put_term_view<'a>(
+    alloc: Global,
+    out: &mut Vec<u8>,
+    stack: &mut Vec<Pending<'a>>,
+    view: TermView<'a>,
+) -> Result<(), AllocError>
+    ensures text { OnOk result (out.new.items ++ spec.stack_text stack.new.items ≡ out.old.items ++ (written.term_text (viewed_term view.entry) ++ spec.stack_text stack.old.items)) }
+    ensures less { OnOk result (spec.weights stack.new.items < 16 * term_size (viewed_term view.entry) + spec.weights stack.old.items) }
+{
+    match view {
+        TermView::Num(number) => put_number(out, number),
+        TermView::Of(name) => put_name(alloc, out, name),
+        TermView::Add(left, right) => two_terms(stack, left, b" + ", right),
+        TermView::Sub(left, right) => two_terms(stack, left, b" - ", right),
+        TermView::Mul(left, right) => two_terms(stack, left, b" * ", right),
+        TermView::Div(left, right) => in_brackets(stack, left, b" / ", right),
+        TermView::Rem(left, right) => in_brackets(stack, left, b" % ", right),
+        TermView::Read(array, index) => element(stack, array, index),
+        TermView::Truth(form) => truth(stack, b"$truth(", form),
+    }
+}
+
+/// Puts an array's name, or its parts on the stack.
+fn put_array_view<'a>(
+    alloc: Global,
+    out: &mut Vec<u8>,
+    stack: &mut Vec<Pending<'a>>,
+    view: ArrayView<'a>,
+) -> Result<(), AllocError>
+    ensures text { OnOk result (out.new.items ++ spec.stack_text stack.new.items ≡ out.old.items ++ (written.array_text (viewed_array view.entry) ++ spec.stack_text stack.old.items)) }
+    ensures less { OnOk result (spec.weights stack.new.items < 16 * array_size (viewed_array view.entry) + spec.weights stack.old.items) }
+{
+    match view {
+        ArrayView::Base(name) => put_name(alloc, out, name),
+        ArrayView::Store(array, index, value) => {
+            put_text(out, b"$store(")?;
+            stored(stack, array, index, value)
+        }
+    }
+}
+
+/// Puts a constant, or a form's parts on the stack.
+fn put_form_view<'a>(
+    out: &mut Vec<u8>,
+    stack: &mut Vec<Pending<'a>>,
+    view: FormView<'a>,
+) -> Result<(), AllocError>
+    ensures text { OnOk result (out.new.items ++ spec.stack_text stack.new.items ≡ out.old.items ++ (written.form_text (viewed_form view.entry) ++ spec.stack_text stack.old.items)) }
+    ensures less { OnOk result (spec.weights stack.new.items < 16 * form_size (viewed_form view.entry) + spec.weights stack.old.items) }
+{
+    match view {
+        FormView::True => put_text(out, b"$true"),
+        FormView::False => put_text(out, b"$false"),
+        FormView::Le(left, right) => two_terms(stack, left, b" <= ", right),
+        FormView::Eq(left, right) => two_terms(stack, left, b" == ", right),
+        FormView::Not(form) => {
+            put_text(out, b"not ")?;
+            push(stack, Pending::FormPart(form))
+        }
+        FormView::And(left, right) => two_forms(stack, left, b" and ", right),
+        FormView::Or(left, right) => two_forms(stack, left, b" or ", right),
+    }
+}
+
+/// Puts what stood at the top of the stack, or its parts on the stack.
+fn put_top<'a>(
+    alloc: Global,
+    out: &mut Vec<u8>,
+    stack: &mut Vec<Pending<'a>>,
+    top: Pending<'a>,
+) -> Result<(), AllocError>
+    ensures text { OnOk result (out.new.items ++ spec.stack_text stack.new.items ≡ out.old.items ++ (spec.pending_text top.entry ++ spec.stack_text stack.old.items)) }
+    ensures less { OnOk result (spec.weights stack.new.items < spec.weight top.entry + spec.weights stack.old.items) }
+{
+    match top {
+        Pending::Text(text) => put_text(out, text),
+        Pending::Term(term) => put_term_view(alloc, out, stack, term.view()),
+        Pending::TermPart(term) => term_part(stack, term),
+        Pending::Array(array) => put_array_view(alloc, out, stack, array.view()),
+        Pending::Form(form) => put_form_view(out, stack, form.view()),
+        Pending::FormPart(form) => form_part(stack, form),
+    }
+}
+
+/// Puts all that is on the stack.
+#[tactic(auto, using(crate::proofs::StackLaws::top_text, crate::proofs::StackLaws::top_weight))]
+fn put_all<'a>(
+    alloc: Global,
+    out: &mut Vec<u8>,
+    stack: &mut Vec<Pending<'a>>,
+) -> Result<(), AllocError>
+    ensures { OnOk result (out.new.items ≡ out.old.items ++ spec.stack_text stack.old.items) }
+{
+    while let Some(top) = stack.pop() {
+        put_top(alloc, out, stack, top)?;
+    }
+    Ok(())
+}
+
+/// Appends the text of a form. It takes no more of the stack than one call, however deep the form is.
+/// The only error is want of memory; then a part of the text may have been appended.
+#[tactic(auto, unfolding(crate::specs::Code::Writing::stack_text))]
+pub fn put_form(alloc: Global, out: &mut Vec<u8>, form: &Form) -> Result<(), AllocError>
+    ensures { OnOk result (out.new.items ≡ out.old.items ++ written.form_text form.now) }
+{
+    let mut stack = Vec::new(alloc);
+    push(&mut stack, Pending::Form(form.as_ref()))?;
+    put_all(alloc, out, &mut stack)
+}
+
+/// Appends the text of a term. It takes no more of the stack than one call, however deep the term is.
+/// The only error is want of memory; then a part of the text may have been appended.
+#[tactic(auto, unfolding(crate::specs::Code::Writing::stack_text))]
+pub fn put_term(alloc: Global, out: &mut Vec<u8>, term: &Term) -> Result<(), AllocError>
+    ensures { OnOk result (out.new.items ≡ out.old.items ++ written.term_text term.now) }
+{
+    let mut stack = Vec::new(alloc);
+    push(&mut stack, Pending::Term(term.as_ref()))?;
+    put_all(alloc, out, &mut stack)
+}
