@@ -1,4 +1,5 @@
 pub mod Complete
+pub mod DecimalLaws
 pub mod LexLaws
 pub mod LexTurns
 pub mod NumberLaws

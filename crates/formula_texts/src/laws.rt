@@ -7,7 +7,6 @@ ghost use Rattle.formula_texts.specs.Texts.{IsFormText, IsNameText, IsTermText};
 ghost use Rattle.formula_texts.specs.Written.{form_text, has_form_text, has_name_text, has_term_text, name_text, term_text};
 
 /// No text is two forms, two terms or two names.
-#[tactic(auto, using(crate::proofs::WholeLaws::one_form, crate::proofs::WholeLaws::one_term, crate::proofs::WholeLaws::one_name))]
 pub fn one_meaning()
     ensures form { (text : List ℕ) (some other : FormTree) → IsFormText text some → IsFormText text other → some ≡ other }
     ensures term { (text : List ℕ) (some other : TermTree) → IsTermText text some → IsTermText text other → some ≡ other }
