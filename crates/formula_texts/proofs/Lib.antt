@@ -9,3 +9,4 @@ pub mod Sound
 pub mod StackLaws
 pub mod TokenLaws
 pub mod WholeLaws
+pub mod WrittenTokens
