@@ -9,4 +9,5 @@ pub mod Sound
 pub mod StackLaws
 pub mod TokenLaws
 pub mod WholeLaws
+pub mod WrittenLaws
 pub mod WrittenTokens
