@@ -1,3 +1,4 @@
+pub mod AsciiLaws
 pub mod Complete
 pub mod DecimalLaws
 pub mod LexLaws

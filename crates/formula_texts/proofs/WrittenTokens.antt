@@ -240,7 +240,7 @@ all_digits_in (first ∷ rest) n e =
       | inr h ↦ absurd (let f = h.1 in cc)
     ]
 
-entry_run : (ds : Bytes) → (bytes_eq ds (codes "r") || is_some (number_in number_limit ds)) ≡ true → (dollar_token ds ≡ Some (token.Base (36 ∷ ds))) × (list_all is_in_word ds ≡ true)
+pub entry_run : (ds : Bytes) → (bytes_eq ds (codes "r") || is_some (number_in number_limit ds)) ≡ true → (dollar_token ds ≡ Some (token.Base (36 ∷ ds))) × (list_all is_in_word ds ≡ true)
 entry_run ds h = by_r (bytes_eq ds (codes "r")) refl
   where
     by_number : bytes_eq ds (codes "r") ≡ false → (o : Option ℕ) → number_in number_limit ds ≡ o → (dollar_token ds ≡ Some (token.Base (36 ∷ ds))) × (list_all is_in_word ds ≡ true)
@@ -251,7 +251,7 @@ entry_run ds h = by_r (bytes_eq ds (codes "r")) refl
     by_r true e = subst (λ (x : Bytes). (dollar_token x ≡ Some (token.Base (36 ∷ x))) × (list_all is_in_word x ≡ true)) (sym (same_bytes ds (codes "r") e)) (result_token, refl)
     by_r false e = by_number e (number_in number_limit ds) refl
 
-word_run : (x : Bytes) → is_word x ≡ true → list_all is_in_word x ≡ true
+pub word_run : (x : Bytes) → is_word x ≡ true → list_all is_in_word x ≡ true
 word_run [] h = refl
 word_run (first ∷ x) h = let both = and_both (is_letter first) (list_all is_in_word x) h in rw (both.0, both.1) refl
 

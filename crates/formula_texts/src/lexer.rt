@@ -16,7 +16,7 @@ use c_lexer::bytes::{Class, byte_at, is_digit, is_in, is_letter, is_same, is_whi
 use std::alloc::{AllocError, Global};
 
 /// The largest number of a text.
-const NUMBER_LIMIT: u128 = 1 << 100;
+pub const NUMBER_LIMIT: u128 = 1 << 100;
 
 /// The largest count of a name.
 const COUNT_LIMIT: u128 = u32::MAX as u128;
@@ -59,7 +59,7 @@ fn number_of(limit: u128, digits: &[u8]) -> Option<u128>
 
 /// The number that a text is, where it is no larger than the limit.
 #[tactic(auto, using(crate::proofs::NumberLaws::number_is))]
-fn number_in(limit: u128, digits: &[u8]) -> Option<u128>
+pub fn number_in(limit: u128, digits: &[u8]) -> Option<u128>
     requires { limit ≤ 2 ^ 100 }
     ensures value { result ≡ words.number_in limit digits.now }
     ensures small { IfSome result (λ n. n ≤ limit) }
@@ -75,7 +75,7 @@ fn is_all_word(text: &[u8]) -> bool
 }
 
 /// Whether the text is a word.
-fn is_word(text: &[u8]) -> bool
+pub fn is_word(text: &[u8]) -> bool
     ensures { result ≡ is_word text.now }
 {
     match text {

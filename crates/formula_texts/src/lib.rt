@@ -17,8 +17,8 @@ pub mod token;
 pub mod value;
 mod write;
 
-pub use laws::one_meaning;
-pub use names::put_name;
+pub use laws::{one_meaning, written_is_ascii, written_is_read};
+pub use names::{has_name_text, put_name};
 pub use read::{read_form, read_name, read_term};
 pub use size::Size;
 pub use stop::Stop;

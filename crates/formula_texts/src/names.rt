@@ -1,11 +1,13 @@
 //! The texts of names and numbers.
 
-ghost use Rattle.std.specs.Prelude.{◌≡◌, ◌++◌, OnOk};
+ghost use Rattle.std.specs.Prelude.{◌≡◌, ◌++◌, ◌||◌, OnOk};
+ghost use Rattle.c_lang.specs.Names.{is_word as is_word_text};
 ghost use Rattle.std.specs.Fmt.{decimal, signed_decimal};
-ghost use Rattle.formula_texts.specs.Written.{base_text, count_text, name_text};
+ghost use Rattle.formula_texts.specs.Written.{base_text, count_text, name_text, is_entry, has_name_text};
 
-use crate::lexer::is_taken;
+use crate::lexer::{NUMBER_LIMIT, is_taken, is_word, number_in};
 use c_lang::Name;
+use c_lexer::bytes::is_same;
 use itoa::Buffer;
 use std::alloc::{AllocError, Global};
 use terms::Sym;
@@ -59,4 +61,31 @@ pub fn put_name(_alloc: Global, out: &mut Vec<u8>, name: &Sym) -> Result<(), All
 {
     put_base(out, &name.base)?;
     put_count(out, name.count)
+}
+
+#[tactic(auto, unfolding(crate::specs::Written::is_entry))]
+fn is_entry(base: &[u8]) -> bool
+    ensures { result ≡ is_entry base.now }
+{
+    match base {
+        [first, rest @ ..] => {
+            *first == b'$' && (is_same(rest, b"r") || number_in(NUMBER_LIMIT, rest).is_some())
+        }
+        [] => false,
+    }
+}
+
+/// Whether the name has a text.
+#[tactic(auto, unfolding(crate::specs::Written::has_name_text))]
+pub fn has_name_text(name: &Sym) -> bool
+    ensures { result ≡ has_name_text name.now }
+{
+    // Each count that a name can have is within the limit.
+    has_base_text(&name.base) && name.count <= u32::MAX
+}
+
+fn has_base_text(base: &Name) -> bool
+    ensures { result ≡ (is_word_text base.now || is_entry base.now) }
+{
+    is_word(base.as_bytes()) || is_entry(base.as_bytes())
 }
