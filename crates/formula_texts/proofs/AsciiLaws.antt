@@ -1,6 +1,6 @@
 -- Written texts are ASCII.
-use Rattle.std.specs.Prelude.{◌≡◌, ℕ, ℤ, pos, negsuc, zero, suc, ◌+◌, ◌<◌, ◌≤◌, ◌^◌, Bool, true, false, ◌&&◌, ◌||◌, if◌then◌else◌, nat_lt, nat_le, unsigned_abs, bytes_eq, is_some, List, [], ◌∷◌, ◌++◌, All, codes}
-use Rattle.std.proofs.Common.{refl, sym, ap, subst, ◌∙◌, arith, eqb, leb, ltb}
+use Rattle.std.specs.Prelude.{◌≡◌, ℕ, ℤ, pos, negsuc, zero, suc, ◌<◌, ◌≤◌, ◌^◌, Bool, true, false, ◌&&◌, ◌||◌, if◌then◌else◌, nat_lt, nat_le, unsigned_abs, bytes_eq, is_some, [], ◌∷◌, ◌++◌, All, codes}
+use Rattle.std.proofs.Common.{refl, subst, arith, eqb, leb, ltb}
 use Rattle.std.specs.Fmt.{decimal, signed_decimal}
 use Rattle.std.specs.List.{list_all}
 use Rattle.std.specs.Str.{IsAscii, IsUtf8}
@@ -8,7 +8,7 @@ use Rattle.std.proofs.lemmas.Str.{IsUtf8-from_ascii}
 use Rattle.std.proofs.lemmas.Bool.{eqb-true, leb-true, ltb-true}
 use Rattle.std.proofs.lemmas.Bool.Decides.{nat_tests}
 use Rattle.std.proofs.lemmas.List.Elements.{All-cons, All-nil}
-use Rattle.c_lang.specs.Names.{Bytes, is_digit, is_letter, is_word}
+use Rattle.c_lang.specs.Names.{Bytes, is_word}
 use Rattle.c_lexer.proofs.Cases.{and_both}
 use Rattle.c_lexer.proofs.Runs.{all_mono}
 use Rattle.c_grammar.specs.Bytes.{is_in_word}
@@ -17,7 +17,7 @@ use Rattle.terms.specs.Trees as tree
 use Rattle.terms.specs.Trees.{TermTree, ArrayTree, FormTree}
 use Rattle.formula_texts.specs.Tokens.{number_limit, count_limit, is_taken, number_in}
 use Rattle.formula_texts.specs.Texts.{bracket_limit}
-use Rattle.formula_texts.specs.Written.{base_text, count_text, name_text, in_brackets, is_compound_term, is_compound_form, term_part, form_part, term_text, array_text, form_text, is_entry, has_name_text, term_fits, array_fits, form_fits, term_brackets, form_brackets, has_form_text, has_term_text}
+use Rattle.formula_texts.specs.Written.{base_text, count_text, name_text, in_brackets, is_compound_term, is_compound_form, term_text, array_text, form_text, is_entry, has_name_text, term_fits, array_fits, form_fits, term_brackets, form_brackets, has_form_text, has_term_text}
 use Rattle.formula_texts.proofs.DecimalLaws.{all_in_word}
 use Rattle.formula_texts.proofs.WrittenTokens.{word_run, entry_run}
 

@@ -1,23 +1,19 @@
 -- What the grammar has is read.
-use Rattle.std.proofs.Common.{◌≡◌, ℕ, ℤ, pos, zero, suc, ◌+◌, ◌<◌, ◌≤◌, List, [], ◌∷◌, ◌++◌, Option, Some, None, refl, sym, ap, ◌∙◌, subst, append_assoc, arith}
-use Rattle.std.specs.Prelude.{IfSome, neg_ℤ}
+use Rattle.std.proofs.Common.{◌≡◌, ℕ, zero, suc, ◌+◌, ◌<◌, ◌≤◌, List, [], ◌∷◌, ◌++◌, Option, Some, None, refl, ap, ◌∙◌, append_assoc, arith}
+use Rattle.std.specs.Prelude.{IfSome}
 use Rattle.std.proofs.lemmas.Bool.{le-ltb, lt-ltb}
-use Rattle.c_lang.specs.Names.{Bytes}
-use Rattle.terms.specs.declared.sym.Sym.{Sym}
 use Rattle.terms.specs.Trees as tree
 use Rattle.terms.specs.Trees.{ArrayTree}
 use Rattle.formula_texts.specs.declared.token.Token.{Token}
 use Rattle.formula_texts.specs.declared.token.Token.TheVariants as token
 use Rattle.formula_texts.specs.declared.token.Operator.{Operator}
-use Rattle.formula_texts.specs.declared.token.Operator.TheVariants as op
 use Rattle.formula_texts.specs.declared.token.Mark.{Mark}
 use Rattle.formula_texts.specs.declared.token.Mark.TheVariants as mark
 use Rattle.formula_texts.specs.declared.value.Value.{Value}
 use Rattle.formula_texts.specs.declared.value.Value.TheVariants as value
-use Rattle.formula_texts.specs.declared.size.Size.{Size}
 use Rattle.formula_texts.specs.Grammar as grammar
 use Rattle.formula_texts.specs.Grammar.{NameText, plain, counted, Tree, number, negative, null, always, never, name, element, truth, brackets, quotient, remainder, negation, denial, joined, Row, array, stored, name_tokens, tokens_of, row_tokens, level, binds, IsGrouped, IsGroupedRow, size_of, row_size, ◌>>=◌, sym_of, apply, value_of, row_of}
-use Rattle.formula_texts.specs.Code.Reading.{Found, FoundRow, Parse, ParseRow, after, count_after, next_operator, join, index_at, array_leaf, named, named_by, store_at, operand, array_at, more_by, more, Readers, readers}
+use Rattle.formula_texts.specs.Code.Reading.{Found, FoundRow, Parse, ParseRow, after, count_after, next_operator, join, index_at, store_at, operand, array_at, more_by, more, readers}
 use Rattle.formula_texts.proofs.OperatorLaws.{level_small, level_positive, level_apart, bind_some}
 
 -- what may stand behind a form or a term whose outermost operator binds so tightly
@@ -292,8 +288,8 @@ mutual
       let b = bind_some (value_of i) (grammar.element_of r.0) v r.2 in
       begins d m _ (found (element (stored a j t) i) v rest)
       (read_stored_element (expr d) (row d) m a j t i r.0 b.0 v rest
-        (reads_row (stored a j t) r.0 d _ g.0 r.1 (omega arith) refl)
-        (reads i b.0 d 1 (token.Mark mark.SquareClose ∷ rest) (Some (found i b.0 (token.Mark mark.SquareClose ∷ rest))) g.1 b.1 (omega arith) (binds_something i) (at_mark mark.SquareClose (binds i) rest refl) (ends_at i b.0 d mark.SquareClose rest)) b.2) ∙ h (suc d) (omega arith)
+      (reads_row (stored a j t) r.0 d _ g.0 r.1 (omega arith) refl)
+      (reads i b.0 d 1 (token.Mark mark.SquareClose ∷ rest) (Some (found i b.0 (token.Mark mark.SquareClose ∷ rest))) g.1 b.1 (omega arith) (binds_something i) (at_mark mark.SquareClose (binds i) rest refl) (ends_at i b.0 d mark.SquareClose rest)) b.2) ∙ h (suc d) (omega arith)
   reads (truth t) v (suc d) m rest out g e high least f h =
       let b = bind_some (value_of t) grammar.truth_of v e in
       begins d m _ (found (truth t) v rest) (read_truth (expr d) (row d) m t b.0 v rest (reads t b.0 d 1 (token.Mark mark.RoundClose ∷ rest) (Some (found t b.0 (token.Mark mark.RoundClose ∷ rest))) g b.1 (omega arith) (binds_something t) (at_mark mark.RoundClose (binds t) rest refl) (ends_at t b.0 d mark.RoundClose rest)) b.2) ∙ h (suc d) (omega arith)

@@ -1,11 +1,11 @@
 -- Cutting a text gives the tokens that it has.
-use Rattle.std.proofs.Common.{◌≡◌, ℕ, zero, suc, ◌+◌, ◌<◌, ◌≤◌, Bool, true, false, not, ◌&&◌, ◌||◌, cond, eqb, List, [], ◌∷◌, ◌++◌, length, take, drop, Option, Some, None, refl, sym, ap, ◌∙◌, subst, append_assoc, arith, inl, inr}
-use Rattle.std.specs.Prelude.{⊤, slice_index, ◌==◌, if◌then◌else◌}
+use Rattle.std.proofs.Common.{◌≡◌, ℕ, zero, suc, ◌+◌, ◌≤◌, Bool, true, false, not, ◌&&◌, ◌||◌, cond, eqb, List, [], ◌∷◌, ◌++◌, length, take, drop, Option, Some, None, refl, sym, ap, ◌∙◌, subst, arith, inl, inr}
+use Rattle.std.specs.Prelude.{⊤, slice_index, ◌==◌}
 use Rattle.std.specs.List.{prefix_len, list_all}
 use Rattle.std.proofs.lemmas.Bool.{eqb-true}
 use Rattle.std.proofs.lemmas.Bool.Decides.{nat_tests}
 use Rattle.std.proofs.lemmas.List.{take_at, drop_at, take-append-drop, length-append}
-use Rattle.c_lang.specs.Names.{Bytes, is_digit, is_letter, is_word}
+use Rattle.c_lang.specs.Names.{Bytes}
 use Rattle.c_lexer.proofs.Cases.{chosen, by_test, by_option, and_both, or_false, not_true}
 use Rattle.c_lexer.proofs.Runs.{run_again, run_is}
 use Rattle.c_grammar.specs.Bytes.{is_white, is_in_line, is_in_word, IsRun}
@@ -13,7 +13,7 @@ use Rattle.formula_texts.specs.declared.token.Token.{Token}
 use Rattle.formula_texts.specs.Tokens.{plain_token, dollar_token, count_token, pair_token, single_token, byte_token, number_in, IsToken, IsGap, AreTokens}
 use Rattle.formula_texts.specs.Tokens as text
 use Rattle.formula_texts.specs.Grammar.{◌>>=◌}
-use Rattle.formula_texts.specs.Code.Lexing.{Cut, cut_by, mark_by, run_at, piece_by, piece_at, kept, lexed, tokens_in}
+use Rattle.formula_texts.specs.Code.Lexing.{Cut, cut_by, mark_by, run_at, piece_by, piece_at, kept, lexed}
 use Rattle.formula_texts.proofs.OperatorLaws.{bind_some}
 
 -- ---- the first byte chooses

@@ -6,7 +6,7 @@ use Rattle.formula_texts.specs.declared.token.Operator.{Operator}
 use Rattle.formula_texts.specs.declared.stop.Stop.{Stop}
 use Rattle.formula_texts.specs.declared.stop.Stop.TheVariants as stop
 use Rattle.formula_texts.specs.Grammar.{◌>>=◌, level}
-use Rattle.formula_texts.specs.Code.Reading.{Found, Parse, ParseRow, Fails, next_operator, join, operand, more_by, more, readers}
+use Rattle.formula_texts.specs.Code.Reading.{Found, Fails, next_operator, join, operand, more_by, more, readers}
 
 -- enough turns are left for the whole that is read
 abbrev pub IsLeft : ℕ → ℕ → ℕ → Found → Option Found → Type 0

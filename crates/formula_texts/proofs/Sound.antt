@@ -18,7 +18,7 @@ use Rattle.formula_texts.specs.declared.value.Value.TheVariants as value
 use Rattle.formula_texts.specs.declared.size.Size.{Size}
 use Rattle.formula_texts.specs.Grammar as grammar
 use Rattle.formula_texts.specs.Grammar.{NameText, plain, counted, Tree, number, negative, null, always, never, name, element, truth, brackets, quotient, remainder, negation, denial, joined, Row, array, stored, name_tokens, tokens_of, row_tokens, level, binds, IsGrouped, IsGroupedRow, grown, larger, size_of, row_size, ◌>>=◌, sym_of, of_terms, apply, value_of, row_of}
-use Rattle.formula_texts.specs.Code.Reading.{Found, FoundRow, Parse, ParseRow, after, natural, numbered, name_after, next_operator, leaf, number_leaf, around, closed, pair, indexed, store, array_leaf, join, index_at, named_by, named, bracket_by, bracket, store_at, element_at, negative_leaf, operator_by, open_by, truth_at, not_at, operand_by, operand, array_by, array_at, more_by, more, Readers, readers}
+use Rattle.formula_texts.specs.Code.Reading.{Found, FoundRow, Parse, ParseRow, after, natural, numbered, name_after, next_operator, leaf, number_leaf, around, closed, pair, indexed, store, array_leaf, join, index_at, named_by, bracket_by, bracket, store_at, element_at, negative_leaf, operator_by, open_by, truth_at, not_at, operand_by, operand, array_by, array_at, more_by, more, readers}
 use Rattle.formula_texts.proofs.OperatorLaws.{level_small, bind_some, after-is, next-is}
 use Rattle.formula_texts.proofs.Complete.{height_positive, expr, row}
 
@@ -210,7 +210,7 @@ module _ (inner : ℕ → Parse) (inner_row : ParseRow) (d : ℕ) (reads : Reads
         least = omega arith;
         parts = two_parts (token.Mark mark.Slash) ts us c.0.rest i.tree j.tree (i.parts ∙ ap (λ (vs : List Token). tokens_of i.tree ++ vs) e) j.parts;
         value_is = ap (λ (o : Option Value). o >>= λ v. value_of j.tree >>= of_terms (grammar.term tree.divided) v) i.value_is
-        ∙ ap (λ (o : Option Value). o >>= of_terms (grammar.term tree.divided) x.value) j.value_is ∙ w.1;
+            ∙ ap (λ (o : Option Value). o >>= of_terms (grammar.term tree.divided) x.value) j.value_is ∙ w.1;
         size_is = ap (λ (s : Size). grown 1 1 (larger s c.0.size)) i.size_is ∙ ap (λ (s : Size). grown 1 1 (larger (size_of i.tree) s)) j.size_is;
       })
 
@@ -229,7 +229,7 @@ module _ (inner : ℕ → Parse) (inner_row : ParseRow) (d : ℕ) (reads : Reads
         least = omega arith;
         parts = two_parts (token.Mark mark.Percent) ts us c.0.rest i.tree j.tree (i.parts ∙ ap (λ (vs : List Token). tokens_of i.tree ++ vs) e) j.parts;
         value_is = ap (λ (o : Option Value). o >>= λ v. value_of j.tree >>= of_terms (grammar.term tree.remainder) v) i.value_is
-        ∙ ap (λ (o : Option Value). o >>= of_terms (grammar.term tree.remainder) x.value) j.value_is ∙ w.1;
+            ∙ ap (λ (o : Option Value). o >>= of_terms (grammar.term tree.remainder) x.value) j.value_is ∙ w.1;
         size_is = ap (λ (s : Size). grown 1 1 (larger s c.0.size)) i.size_is ∙ ap (λ (s : Size). grown 1 1 (larger (size_of i.tree) s)) j.size_is;
       })
 
@@ -308,7 +308,7 @@ module _ (inner : ℕ → Parse) (inner_row : ParseRow) (d : ℕ) (reads : Reads
         high = omega (arith, i.high);
         least = omega arith;
         parts = ap (λ (us : List Token). token.Truth ∷ us)
-        (after-is mark.RoundOpen ts b.0 b.1 ∙ ap (λ (us : List Token). token.Mark mark.RoundOpen ∷ us) (i.parts ∙ sym (append_assoc (tokens_of i.tree) (token.Mark mark.RoundClose ∷ []) c.0.rest)));
+            (after-is mark.RoundOpen ts b.0 b.1 ∙ ap (λ (us : List Token). token.Mark mark.RoundOpen ∷ us) (i.parts ∙ sym (append_assoc (tokens_of i.tree) (token.Mark mark.RoundClose ∷ []) c.0.rest)));
         value_is = ap (λ (o : Option Value). o >>= grammar.truth_of) i.value_is ∙ w.1;
         size_is = ap (grown 1 1) i.size_is;
       })
@@ -376,14 +376,14 @@ module _ (inner : ℕ → Parse) (inner_row : ParseRow) (d : ℕ) (reads : Reads
         grouped = (r.grouped, j.grouped, k.grouped);
         high = omega (arith, r.high, j.high, k.high);
         parts = stored_parts r.tree j.tree k.tree ts b.0 second.0 third.0 c.0.rest (after-is mark.RoundOpen ts b.0 b.1)
-        (r.parts ∙ ap (λ (y : List Token). row_tokens r.tree ++ y) (after-is mark.Comma a.0.rest second.0 second.1))
-        (j.parts ∙ ap (λ (y : List Token). tokens_of j.tree ++ y) (after-is mark.Comma i.0.rest third.0 third.1)) k.parts;
+            (r.parts ∙ ap (λ (y : List Token). row_tokens r.tree ++ y) (after-is mark.Comma a.0.rest second.0 second.1))
+            (j.parts ∙ ap (λ (y : List Token). tokens_of j.tree ++ y) (after-is mark.Comma i.0.rest third.0 third.1)) k.parts;
         value_is = ap (λ (o : Option ArrayTree). o >>= λ y. value_of j.tree >>= λ u. value_of k.tree >>= grammar.stored_of y u) r.value_is
-        ∙ ap (λ (o : Option Value). o >>= λ u. value_of k.tree >>= grammar.stored_of a.0.row u) j.value_is
-        ∙ ap (λ (o : Option Value). o >>= grammar.stored_of a.0.row i.0.value) k.value_is ∙ w.1;
+            ∙ ap (λ (o : Option Value). o >>= λ u. value_of k.tree >>= grammar.stored_of a.0.row u) j.value_is
+            ∙ ap (λ (o : Option Value). o >>= grammar.stored_of a.0.row i.0.value) k.value_is ∙ w.1;
         size_is = ap (λ (s : Size). grown 1 1 (larger s (larger i.0.size c.0.size))) r.size_is
-        ∙ ap (λ (s : Size). grown 1 1 (larger (row_size r.tree) (larger s c.0.size))) j.size_is
-        ∙ ap (λ (s : Size). grown 1 1 (larger (row_size r.tree) (larger (size_of j.tree) s))) k.size_is;
+            ∙ ap (λ (s : Size). grown 1 1 (larger (row_size r.tree) (larger s c.0.size))) j.size_is
+            ∙ ap (λ (s : Size). grown 1 1 (larger (row_size r.tree) (larger (size_of j.tree) s))) k.size_is;
       })
 
   base-read : (x : Bytes) (ts : List Token) (y : FoundRow) → Some (array_leaf (name_after x ts)) ≡ Some y → IsRow (suc d) (token.Base x ∷ ts) y

@@ -1,5 +1,5 @@
 -- The top of a stack.
-use Rattle.std.proofs.Common.{◌≡◌, ℕ, ◌+◌, ◌<◌, List, [], ◌∷◌, ◌++◌, length, refl, sym, ap, ◌∙◌, append_assoc, append-nil, arith}
+use Rattle.std.proofs.Common.{◌≡◌, ◌+◌, List, [], ◌∷◌, ◌++◌, length, refl, sym, ap, ◌∙◌, append_assoc, append-nil, arith}
 use Rattle.c_lang.specs.Names.{Bytes}
 use Rattle.formula_texts.specs.declared.pending.Pending.{Pending}
 use Rattle.formula_texts.specs.Code.Writing.{pending_text, stack_text, weight, weights}

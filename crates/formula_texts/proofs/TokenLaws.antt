@@ -1,16 +1,15 @@
 -- Whole lists of tokens: what is read is what the grammar has.
-use Rattle.std.proofs.Common.{◌≡◌, ℕ, ◌+◌, ◌<◌, ◌≤◌, ltb, leb, max, true, false, ◌&&◌, List, [], ◌∷◌, ◌++◌, Option, Some, None, refl, sym, ap, ◌∙◌, subst, append-nil, arith, inl, inr}
+use Rattle.std.proofs.Common.{◌≡◌, ℕ, ◌+◌, ◌≤◌, leb, max, true, List, [], ◌∷◌, ◌++◌, Some, None, refl, sym, ap, ◌∙◌, subst, append-nil, arith, inl, inr}
 use Rattle.std.proofs.lemmas.Bool.{le-leb, leb-true}
-use Rattle.c_lang.specs.Names.{Bytes}
 use Rattle.c_lexer.proofs.Cases.{chosen, and_both}
 use Rattle.terms.specs.declared.sym.Sym.{Sym}
 use Rattle.formula_texts.specs.declared.token.Token.{Token}
 use Rattle.formula_texts.specs.declared.token.Token.TheVariants as token
 use Rattle.formula_texts.specs.declared.value.Value.{Value}
 use Rattle.formula_texts.specs.declared.size.Size.{Size}
-use Rattle.formula_texts.specs.Grammar.{NameText, plain, counted, Tree, number, negative, null, always, never, name, element, truth, brackets, quotient, remainder, negation, denial, joined, Row, array, stored, name_tokens, tokens_of, IsGrouped, size_of, row_size, ◌>>=◌, sym_of, value_of}
+use Rattle.formula_texts.specs.Grammar.{NameText, plain, counted, Tree, number, negative, null, always, never, name, element, truth, brackets, quotient, remainder, negation, denial, joined, Row, array, stored, name_tokens, tokens_of, IsGrouped, size_of, row_size, sym_of, value_of}
 use Rattle.formula_texts.specs.Texts.{bracket_limit, operator_limit, IsSmall}
-use Rattle.formula_texts.specs.Code.Reading.{Found, name_after, readers, height_limit, is_small, ended_by, value_in, whole_name, name_by, name_in}
+use Rattle.formula_texts.specs.Code.Reading.{Found, name_after, height_limit, is_small, ended_by, value_in, whole_name, name_by, name_in}
 use Rattle.formula_texts.proofs.OperatorLaws.{bind_some}
 use Rattle.formula_texts.proofs.Complete.{expr, found, reads, binds_something, below, below_row, closes}
 use Rattle.formula_texts.proofs.Sound.{reads_trees, name_after-is}

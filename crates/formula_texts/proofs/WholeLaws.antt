@@ -1,20 +1,19 @@
 -- What is read from a text is what the text is.
-use Rattle.std.proofs.Common.{◌≡◌, ℕ, Option, Some, None, refl, sym, ap, ◌∙◌, subst, length, arith}
+use Rattle.std.proofs.Common.{◌≡◌, Option, Some, None, refl, sym, ap, ◌∙◌, subst, length, arith}
 use Rattle.c_lang.specs.Names.{Bytes}
 use Rattle.terms.specs.declared.sym.Sym.{Sym}
 use Rattle.terms.specs.Trees.{TermTree, FormTree}
-use Rattle.formula_texts.specs.declared.token.Token.{Token}
 use Rattle.formula_texts.specs.declared.value.Value.{Value}
 use Rattle.formula_texts.specs.declared.value.Value.TheVariants as value
 use Rattle.formula_texts.specs.Tokens.{AreTokens}
-use Rattle.formula_texts.specs.Grammar.{◌>>=◌, term_in, form_in, sym_of, name_tokens}
+use Rattle.formula_texts.specs.Grammar.{◌>>=◌, term_in, form_in}
 use Rattle.formula_texts.specs.Texts.{IsText, IsFormText, IsTermText, IsNameText}
 use Rattle.formula_texts.specs.Code.Lexing.{tokens_in}
 use Rattle.formula_texts.specs.Code.Reading.{value_in, name_in}
 use Rattle.formula_texts.specs.Code.Whole.{form_of, term_of, name_of}
 use Rattle.formula_texts.proofs.OperatorLaws.{bind_some}
 use Rattle.formula_texts.proofs.LexLaws.{lexed_again, lexed_is}
-use Rattle.formula_texts.proofs.TokenLaws.{AreOf, value_again, value_is, name_again, name_is}
+use Rattle.formula_texts.proofs.TokenLaws.{value_again, value_is, name_again, name_is}
 
 -- ---- forms and terms
 

@@ -1,6 +1,6 @@
 -- What is written is read.
-use Rattle.std.specs.Prelude.{◌≡◌, ℕ, ℤ, pos, negsuc, zero, suc, ◌+◌, ◌≤◌, max, Bool, true, false, ◌&&◌, if◌then◌else◌, nat_le, unsigned_abs, List, [], ◌∷◌, ◌++◌, Option, Some, None, codes}
-use Rattle.std.proofs.Common.{refl, sym, ap, subst, ◌∙◌, append_assoc, append-nil, arith}
+use Rattle.std.specs.Prelude.{◌≡◌, ℕ, ℤ, pos, negsuc, suc, ◌+◌, ◌≤◌, max, Bool, true, false, ◌&&◌, if◌then◌else◌, nat_le, unsigned_abs, List, [], ◌∷◌, ◌++◌, Option, Some, codes}
+use Rattle.std.proofs.Common.{refl, ap, subst, ◌∙◌, append_assoc, append-nil, arith}
 use Rattle.std.proofs.lemmas.Bool.{leb-true}
 use Rattle.c_lang.specs.Names.{Bytes}
 use Rattle.c_lexer.proofs.Cases.{and_both}
@@ -20,7 +20,7 @@ use Rattle.formula_texts.specs.Tokens as words
 use Rattle.formula_texts.specs.Grammar as grammar
 use Rattle.formula_texts.specs.Grammar.{Tree, Row, tokens_of, row_tokens, level, binds, IsGrouped, IsGroupedRow, size_of, row_size, ◌>>=◌, apply, of_terms, value_of, row_of}
 use Rattle.formula_texts.specs.Texts.{bracket_limit, IsText, IsFormText, IsTermText, IsNameText}
-use Rattle.formula_texts.specs.Written.{in_brackets, term_part, form_part, is_compound_term, is_compound_form, term_text, array_text, form_text, name_text, term_fits, array_fits, form_fits, term_brackets, array_brackets, form_brackets, has_form_text, has_term_text, has_name_text}
+use Rattle.formula_texts.specs.Written.{in_brackets, is_compound_term, is_compound_form, term_text, array_text, form_text, name_text, term_fits, array_fits, form_fits, term_brackets, array_brackets, form_brackets, has_form_text, has_term_text, has_name_text}
 use Rattle.formula_texts.proofs.OperatorLaws.{level_small, level_positive}
 use Rattle.formula_texts.proofs.WrittenTokens.{Chain, both_chains, round_opens, round_closes, square_opens, square_closes, comma_space, true_word, false_word, truth_begins, store_begins, not_space, plus_sign, minus_sign, times_sign, slash_sign, percent_sign, at_most_sign, equal_sign, and_word, or_word, natural_text, negative_text, name_chain}
 
@@ -79,8 +79,8 @@ quotient_text x y t u m n f g = record {
   operators = omega (arith, f.operators, g.operators);
   binds_so = omega arith;
   chain = λ rest end. both_chains round_opens
-  (subst (λ (ts : List Token). Chain ((x ++ (codes " / " ++ y)) ++ codes ")") rest ts) (append_assoc (tokens_of f.tree) (token.Mark mark.Slash ∷ tokens_of g.tree) (token.Mark mark.RoundClose ∷ []))
-  (both_chains (both_chains (f.chain ((codes " / " ++ y) ++ (codes ")" ++ rest)) refl) (both_chains slash_sign (g.chain (codes ")" ++ rest) refl))) round_closes));
+      (subst (λ (ts : List Token). Chain ((x ++ (codes " / " ++ y)) ++ codes ")") rest ts) (append_assoc (tokens_of f.tree) (token.Mark mark.Slash ∷ tokens_of g.tree) (token.Mark mark.RoundClose ∷ []))
+      (both_chains (both_chains (f.chain ((codes " / " ++ y) ++ (codes ")" ++ rest)) refl) (both_chains slash_sign (g.chain (codes ")" ++ rest) refl))) round_closes));
 }
 
 remainder_text : (x y : Bytes) (t u : TermTree) (m n : ℕ) → HasTree x (value.Term t) m 0 7 → HasTree y (value.Term u) n 0 7
@@ -93,8 +93,8 @@ remainder_text x y t u m n f g = record {
   operators = omega (arith, f.operators, g.operators);
   binds_so = omega arith;
   chain = λ rest end. both_chains round_opens
-  (subst (λ (ts : List Token). Chain ((x ++ (codes " % " ++ y)) ++ codes ")") rest ts) (append_assoc (tokens_of f.tree) (token.Mark mark.Percent ∷ tokens_of g.tree) (token.Mark mark.RoundClose ∷ []))
-  (both_chains (both_chains (f.chain ((codes " % " ++ y) ++ (codes ")" ++ rest)) refl) (both_chains percent_sign (g.chain (codes ")" ++ rest) refl))) round_closes));
+      (subst (λ (ts : List Token). Chain ((x ++ (codes " % " ++ y)) ++ codes ")") rest ts) (append_assoc (tokens_of f.tree) (token.Mark mark.Percent ∷ tokens_of g.tree) (token.Mark mark.RoundClose ∷ []))
+      (both_chains (both_chains (f.chain ((codes " % " ++ y) ++ (codes ")" ++ rest)) refl) (both_chains percent_sign (g.chain (codes ")" ++ rest) refl))) round_closes));
 }
 
 element_text : (x y : Bytes) (a : ArrayTree) (i : TermTree) (m n : ℕ) → HasRow x a m → HasTree y (value.Term i) n 0 7 → HasTree (x ++ (codes "[" ++ (y ++ codes "]"))) (value.Term (tree.read a i)) (max m (1 + n)) 0 7
@@ -114,11 +114,11 @@ stored_text x y z a i t m n k f g h = record {
   tree = grammar.stored f.tree g.tree h.tree;
   grouped = (f.grouped, g.grouped, h.grouped);
   value_is = ap (λ (p : Option ArrayTree). p >>= λ w. value_of g.tree >>= λ u. value_of h.tree >>= grammar.stored_of w u) f.value_is
-  ∙ ap (λ (p : Option Value). p >>= λ u. value_of h.tree >>= grammar.stored_of a u) g.value_is ∙ ap (λ (p : Option Value). p >>= grammar.stored_of a (value.Term i)) h.value_is;
+      ∙ ap (λ (p : Option Value). p >>= λ u. value_of h.tree >>= grammar.stored_of a u) g.value_is ∙ ap (λ (p : Option Value). p >>= grammar.stored_of a (value.Term i)) h.value_is;
   brackets = omega (arith, f.brackets, g.brackets, h.brackets);
   operators = omega (arith, f.operators, g.operators, h.operators);
   chain = λ rest end. both_chains store_begins (both_chains (f.chain ((codes ", " ++ (y ++ (codes ", " ++ (z ++ codes ")")))) ++ rest) refl)
-  (both_chains comma_space (both_chains (g.chain ((codes ", " ++ (z ++ codes ")")) ++ rest) refl) (both_chains comma_space (both_chains (h.chain (codes ")" ++ rest) refl) round_closes)))));
+      (both_chains comma_space (both_chains (g.chain ((codes ", " ++ (z ++ codes ")")) ++ rest) refl) (both_chains comma_space (both_chains (h.chain (codes ")" ++ rest) refl) round_closes)))));
 }
 
 truth_text : (x : Bytes) (f : FormTree) (m : ℕ) → HasTree x (value.Form f) m 0 7 → HasTree (codes "$truth(" ++ (x ++ codes ")")) (value.Term (tree.truth f)) (1 + m) 0 7
@@ -145,11 +145,21 @@ denial_text x f m h = record {
 
 number_text : (z : ℤ) → nat_le (unsigned_abs z) number_limit ≡ true → HasTree (term_text (tree.number z)) (value.Term (tree.number z)) 0 0 7
 number_text (pos n) h = record {
-  tree = grammar.number n; grouped = tt; value_is = refl; brackets = omega arith; operators = omega arith; binds_so = omega arith;
+  tree = grammar.number n;
+  grouped = tt;
+  value_is = refl;
+  brackets = omega arith;
+  operators = omega arith;
+  binds_so = omega arith;
   chain = λ rest end. natural_text n (leb-true _ _ h) end;
 }
 number_text (negsuc n) h = record {
-  tree = grammar.negative (suc n); grouped = tt; value_is = refl; brackets = omega arith; operators = omega arith; binds_so = omega arith;
+  tree = grammar.negative (suc n);
+  grouped = tt;
+  value_is = refl;
+  brackets = omega arith;
+  operators = omega arith;
+  binds_so = omega arith;
   chain = λ rest end. negative_text n (leb-true _ _ h) end;
 }
 
@@ -240,6 +250,6 @@ written_name x h =
     record {
       name = n.0;
       tokens = subst (λ (z : Bytes). AreTokens z (grammar.name_tokens n.0)) (append-nil (name_text x))
-      (subst (λ (ts : List Token). AreTokens (name_text x ++ []) ts) (append-nil (grammar.name_tokens n.0)) ((n.2 [] tt).cuts [] words.ends));
+          (subst (λ (ts : List Token). AreTokens (name_text x ++ []) ts) (append-nil (grammar.name_tokens n.0)) ((n.2 [] tt).cuts [] words.ends));
       same = n.1;
     }

@@ -1,7 +1,7 @@
 -- The tokens of written texts.
-use Rattle.std.specs.Prelude.{◌≡◌, ℕ, ℤ, pos, negsuc, zero, suc, ◌+◌, ◌^◌, ◌<◌, ◌≤◌, Bool, true, false, not, ◌&&◌, ◌||◌, ◌==◌, cond, if◌then◌else◌, nat_le, bytes_eq, is_some, List, [], ◌∷◌, ◌++◌, length, slice_index, Option, Some, None, codes}
+use Rattle.std.specs.Prelude.{◌≡◌, ℕ, pos, zero, suc, ◌^◌, ◌<◌, ◌≤◌, Bool, true, false, not, ◌&&◌, ◌||◌, ◌==◌, cond, bytes_eq, is_some, List, [], ◌∷◌, ◌++◌, length, slice_index, Option, Some, None, codes}
 use Rattle.std.proofs.Common.{refl, sym, ap, subst, ◌∙◌, append_assoc, append-nil, inl, inr, arith, eqb, leb}
-use Rattle.std.specs.Fmt.{decimal, signed_decimal}
+use Rattle.std.specs.Fmt.{decimal}
 use Rattle.std.specs.List.{list_all, list_any}
 use Rattle.std.proofs.lemmas.Bool.{eqb-true, leb-true}
 use Rattle.std.proofs.lemmas.Bool.Decides.{nat_tests}
@@ -10,16 +10,14 @@ use Rattle.c_lexer.proofs.Cases.{chosen, and_both, or_false, same_bytes}
 use Rattle.c_lexer.proofs.Runs.{all_mono, digit_not_letter}
 use Rattle.c_grammar.specs.Pieces.{value}
 use Rattle.c_grammar.specs.Bytes.{is_in_word, IsEnd, IsRun}
-use Rattle.terms.specs.declared.sym.Sym.{Sym}
 use Rattle.formula_texts.specs.declared.token.Token.{Token}
 use Rattle.formula_texts.specs.declared.token.Token.TheVariants as token
-use Rattle.formula_texts.specs.declared.token.Operator.{Operator}
 use Rattle.formula_texts.specs.declared.token.Operator.TheVariants as op
 use Rattle.formula_texts.specs.declared.token.Mark.TheVariants as mark
 use Rattle.formula_texts.specs.Tokens as text
 use Rattle.formula_texts.specs.Tokens.{number_limit, count_limit, is_taken, found_in, own_words, own_dollar_words, plain_token, dollar_token, count_token, entry_token, number_in, pair_token, single_token, IsToken, AreTokens}
 use Rattle.formula_texts.specs.Grammar.{NameText, plain, counted, name_tokens, sym_of}
-use Rattle.formula_texts.specs.Written.{base_text, count_text, name_text, is_entry, has_name_text}
+use Rattle.formula_texts.specs.Written.{base_text, name_text, is_entry, has_name_text}
 use Rattle.formula_texts.proofs.DecimalLaws.{all_digits, all_in_word, some_digits, decimal_number}
 
 -- in front of any rest that has tokens, the text has these
@@ -32,8 +30,8 @@ token_chain {front} {rest} t is = record { cuts = λ ts more. text.goes front re
 pub both_chains : {a b rest : Bytes} {xs ys : List Token} → Chain a (b ++ rest) xs → Chain b rest ys → Chain (a ++ b) rest (xs ++ ys)
 both_chains {a} {b} {rest} {xs} {ys} f g = record {
   cuts = λ ts more.
-  subst (λ (z : Bytes). AreTokens z ((xs ++ ys) ++ ts)) (sym (append_assoc a b rest))
-  (subst (λ (us : List Token). AreTokens (a ++ (b ++ rest)) us) (sym (append_assoc xs ys ts)) (f.cuts (ys ++ ts) (g.cuts ts more)));
+      subst (λ (z : Bytes). AreTokens z ((xs ++ ys) ++ ts)) (sym (append_assoc a b rest))
+      (subst (λ (us : List Token). AreTokens (a ++ (b ++ rest)) us) (sym (append_assoc xs ys ts)) (f.cuts (ys ++ ts) (g.cuts ts more)));
 }
 
 skip_space : (rest : Bytes) (ts : List Token) → AreTokens rest ts → AreTokens (32 ∷ rest) ts
@@ -43,8 +41,8 @@ skip_space rest ts more = text.skips (32 ∷ []) rest ts (text.white 32 refl) mo
 pub spaced : (word : Bytes) (t : Token) → ((rest : Bytes) → IsToken (32 ∷ rest) word t) → (rest : Bytes) → Chain (32 ∷ (word ++ (32 ∷ []))) rest (t ∷ [])
 spaced word t is rest = record {
   cuts = λ ts more.
-  let at = text.goes word (32 ∷ rest) t ts (is rest) (skip_space rest ts more) in
-  subst (λ (z : Bytes). AreTokens (32 ∷ z) (t ∷ ts)) (sym (append_assoc word (32 ∷ []) rest)) (skip_space (word ++ (32 ∷ rest)) (t ∷ ts) at);
+      let at = text.goes word (32 ∷ rest) t ts (is rest) (skip_space rest ts more) in
+      subst (λ (z : Bytes). AreTokens (32 ∷ z) (t ∷ ts)) (sym (append_assoc word (32 ∷ []) rest)) (skip_space (word ++ (32 ∷ rest)) (t ∷ ts) at);
 }
 
 -- ---- marks
@@ -84,14 +82,14 @@ pub truth_begins : {rest : Bytes} → Chain (codes "$truth(") rest (token.Truth 
 unfolding dollar_token
 truth_begins {rest} = record {
   cuts = λ ts more. text.goes (codes "$truth") (codes "(" ++ rest) token.Truth (token.Mark mark.RoundOpen ∷ ts)
-  (text.dollars (codes "truth") token.Truth (record { all = refl; ends = refl }) refl) (round_opens.cuts ts more);
+      (text.dollars (codes "truth") token.Truth (record { all = refl; ends = refl }) refl) (round_opens.cuts ts more);
 }
 
 pub store_begins : {rest : Bytes} → Chain (codes "$store(") rest (token.Store ∷ token.Mark mark.RoundOpen ∷ [])
 unfolding dollar_token
 store_begins {rest} = record {
   cuts = λ ts more. text.goes (codes "$store") (codes "(" ++ rest) token.Store (token.Mark mark.RoundOpen ∷ ts)
-  (text.dollars (codes "store") token.Store (record { all = refl; ends = refl }) refl) (round_opens.cuts ts more);
+      (text.dollars (codes "store") token.Store (record { all = refl; ends = refl }) refl) (round_opens.cuts ts more);
 }
 
 pub not_space : {rest : Bytes} → Chain (codes "not ") rest (token.Not ∷ [])
@@ -176,7 +174,7 @@ negative_text {rest} n h end =
     let small = small_number (suc n) h in
     record {
       cuts = λ ts more. text.goes (45 ∷ []) (decimal (suc n) ++ rest) (token.Operator op.TightMinus) (token.Number (pos (suc n)) ∷ ts)
-      (tight_minus (decimal (suc n)) rest (all_digits (suc n) small) (some_digits (suc n) small)) ((natural_text {rest = rest} (suc n) h end).cuts ts more);
+          (tight_minus (decimal (suc n)) rest (all_digits (suc n) small) (some_digits (suc n) small)) ((natural_text {rest = rest} (suc n) h end).cuts ts more);
     }
 
 -- ---- names

@@ -3,7 +3,6 @@ use Rattle.std.specs.Prelude.{◌≡◌, ℕ, ◌≤◌, List, Some}
 use Rattle.terms.specs.declared.sym.Sym.{Sym}
 use Rattle.terms.specs.Trees.{TermTree, FormTree}
 use Rattle.formula_texts.specs.declared.size.Size.{Size}
-use Rattle.formula_texts.specs.declared.token.Token.{Token}
 use Rattle.formula_texts.specs.declared.value.Value.{Value}
 use Rattle.formula_texts.specs.declared.value.Value.TheVariants as value
 use Rattle.formula_texts.specs.Tokens.{AreTokens}

@@ -1,5 +1,5 @@
 -- How forms, terms and names are written, and which of them have a text.
-use Rattle.std.specs.Prelude.{ℕ, ℤ, ◌+◌, max, unsigned_abs, Bool, true, false, ◌&&◌, ◌||◌, ◌==◌, is_some, nat_le, bytes_eq, if◌then◌else◌, [], ◌∷◌, ◌++◌, codes}
+use Rattle.std.specs.Prelude.{ℕ, ◌+◌, max, unsigned_abs, Bool, true, false, ◌&&◌, ◌||◌, ◌==◌, is_some, nat_le, bytes_eq, if◌then◌else◌, [], ◌∷◌, ◌++◌, codes}
 use Rattle.std.specs.Fmt.{decimal, signed_decimal}
 use Rattle.c_lang.specs.Names.{Bytes, is_word}
 use Rattle.terms.specs.declared.sym.Sym.{Sym}

@@ -184,7 +184,12 @@ pub fn in_brackets(found: Found<'_>) -> Found<'_>
 }
 
 /// Two parts with an operator between.
-pub fn join<'a>(alloc: Global, operator: Operator, left: Found<'_>, right: Found<'a>) -> Result<Found<'a>, Stop>
+pub fn join<'a>(
+    alloc: Global,
+    operator: Operator,
+    left: Found<'_>,
+    right: Found<'a>,
+) -> Result<Found<'a>, Stop>
     requires left { left.size.height + 1 < 2 ^ 32 }
     requires right { right.size.height + 1 < 2 ^ 32 }
     requires small { IsInside left.size × IsInside right.size }
@@ -245,7 +250,11 @@ pub fn indexed<'a>(row: FoundRow<'_>, index: Found<'a>) -> Result<Found<'a>, Sto
 }
 
 /// An array with a value stored in it.
-pub fn store<'a>(row: FoundRow<'_>, index: Found<'_>, value: Found<'a>) -> Result<FoundRow<'a>, Stop>
+pub fn store<'a>(
+    row: FoundRow<'_>,
+    index: Found<'_>,
+    value: Found<'a>,
+) -> Result<FoundRow<'a>, Stop>
     requires row { row.size.height + 1 < 2 ^ 32 }
     requires index { index.size.height + 1 < 2 ^ 32 }
     requires value { value.size.height + 1 < 2 ^ 32 }

@@ -7,8 +7,8 @@ ghost use Rattle.formula_texts.specs.Code.Reading.{Gives};
 ghost use Rattle.formula_texts.specs.Code.Seen.{seen, seen_row, IsWithin};
 
 use crate::found::{
-    Found, FoundRow, array_leaf, closed, constant, denial, divided, in_brackets, indexed, join, name,
-    negation, number, store, truth, with_remainder,
+    Found, FoundRow, array_leaf, closed, constant, denial, divided, in_brackets, indexed, join,
+    name, negation, number, store, truth, with_remainder,
 };
 use crate::front::{after, level, name_after, natural, next_operator, skip};
 use crate::stop::Stop;
@@ -69,12 +69,7 @@ fn index_at<'a>(
 
 /// A name, or an element of the array with this name.
 #[cycle(expression)]
-fn named<'a>(
-    alloc: Global,
-    below: u32,
-    symbol: Sym,
-    tokens: &'a [Token],
-) -> Result<Found<'a>, Stop>
+fn named<'a>(alloc: Global, below: u32, symbol: Sym, tokens: &'a [Token]) -> Result<Found<'a>, Stop>
     requires { below + 1 < 2 ^ 32 }
     ensures read { Gives seen result (spec.named (spec.readers below).value (spec.readers below).row (symbol, tokens.now)) }
     ensures size { IfOk result (λ x. IsWithin (below + 1) x.size) }
@@ -188,12 +183,7 @@ fn operand(alloc: Global, below: u32, least: u8, tokens: &[Token]) -> Result<Fou
 
 /// A name with what may stand behind it.
 #[cycle(expression)]
-fn based<'a>(
-    alloc: Global,
-    below: u32,
-    base: &Name,
-    tokens: &'a [Token],
-) -> Result<Found<'a>, Stop>
+fn based<'a>(alloc: Global, below: u32, base: &Name, tokens: &'a [Token]) -> Result<Found<'a>, Stop>
     requires { below + 1 < 2 ^ 32 }
     ensures read { Gives seen result (spec.named (spec.readers below).value (spec.readers below).row (spec.name_after base.now tokens.now)) }
     ensures size { IfOk result (λ x. IsWithin (below + 1) x.size) }
@@ -241,12 +231,7 @@ fn array(alloc: Global, deep: u32, tokens: &[Token]) -> Result<FoundRow<'_>, Sto
 /// A form or a term at most `deep` high, with operators of at least this level outside brackets.
 #[cycle(expression)]
 #[tactic(auto, unfolding(crate::specs::Code::Reading::readers))]
-pub fn expression(
-    alloc: Global,
-    deep: u32,
-    least: u8,
-    tokens: &[Token],
-) -> Result<Found<'_>, Stop>
+pub fn expression(alloc: Global, deep: u32, least: u8, tokens: &[Token]) -> Result<Found<'_>, Stop>
     ensures read { Gives seen result ((spec.readers deep).value least tokens.now) }
     ensures size { IfOk result (λ x. IsWithin deep x.size) }
 {

@@ -138,7 +138,11 @@ fn element<'a>(
 }
 
 /// The truth of a form, where `begin` is how it begins.
-fn truth<'a>(stack: &mut Vec<Pending<'a>>, begin: &'a [u8], form: FormRef<'a>) -> Result<(), AllocError>
+fn truth<'a>(
+    stack: &mut Vec<Pending<'a>>,
+    begin: &'a [u8],
+    form: FormRef<'a>,
+) -> Result<(), AllocError>
     ensures text { OnOk result (spec.stack_text stack.new.items ≡ begin.now ++ (written.form_part form.entry (written.form_text form.entry) ++ (codes ")" ++ spec.stack_text stack.old.items))) }
     ensures weight { OnOk result (spec.weights stack.new.items ≡ 16 * form_size form.entry + 6 + spec.weights stack.old.items) }
 {

@@ -1,5 +1,5 @@
 -- Cutting a text into tokens.
-use Rattle.std.specs.Prelude.{ℕ, zero, suc, Bool,  ◌+◌, ◌-◌, ◌*◌, nat_le, nat_lt, ◌||◌, ◌&&◌, ◌==◌, if◌then◌else◌, List, [], ◌∷◌, ◌++◌, take, drop, slice_index, length, Option, Some, None}
+use Rattle.std.specs.Prelude.{ℕ, zero, suc, Bool, ◌+◌, ◌-◌, ◌*◌, nat_le, nat_lt, ◌||◌, ◌&&◌, ◌==◌, if◌then◌else◌, List, [], ◌∷◌, take, drop, slice_index, length, Option, Some, None}
 use Rattle.std.specs.List.{prefix_len}
 use Rattle.c_lang.specs.Names.{Bytes, is_digit}
 use Rattle.c_grammar.specs.Bytes.{slash, is_white, is_in_line, is_in_word}

@@ -1,5 +1,5 @@
 -- What is still to be put.
-use Rattle.std.specs.Prelude.{ℕ, ◌+◌, ◌*◌, List, [], ◌∷◌, ◌++◌, length}
+use Rattle.std.specs.Prelude.{ℕ, ◌+◌, ◌*◌, List, [], ◌∷◌, ◌++◌}
 use Rattle.c_lang.specs.Names.{Bytes}
 use Rattle.terms.specs.Nodes.{term_size, array_size, form_size}
 use Rattle.formula_texts.specs.Written.{term_text, array_text, form_text, term_part, form_part}

@@ -1,8 +1,7 @@
-use Rattle.std.proofs.Common.{arith, sym, ap, subst, ◌-◌, ◌≤◌, ◌<◌, ◌≡◌}
+use Rattle.std.proofs.Common.{arith, sym, subst, ◌-◌, ◌≤◌, ◌<◌}
 use Rattle.std.proofs.lemmas.Result.{err_from_is_err_and}
 use Rattle.formula_texts.specs.declared.size.Size.{Size}
 use Rattle.formula_texts.specs.Grammar.{grown, larger}
-use Rattle.formula_texts.specs.Code.Reading as spec
 use Rattle.formula_texts.specs.Code.Seen.{seen, IsWithin}
 use Rattle.formula_texts.proofs.ReadingTurns.{begins, goes_on, ends, stops, fails_right, fails_join, fails_high}
 use Rattle.formula_texts.proofs.reader.+expression.Goals as goal
@@ -50,7 +49,7 @@ expression-loop-operator-preserved t c =
       deep = i.deep;
       size = subst (λ (z : Size). IsWithin c.args.deep z) (sym s) fits;
       total = goes_on (c.args.deep - 1) c.args.deep c.args.least (seen c.loop-operator.left) (seen c.in_ok-right.right) (seen c.in_ok-left-2.left) c.in-Some.operator c.in-Some.rest.now _ (sym c.in-Some.ensures.value) (omega arith)
-      (rw (← c.level-in-Some.ensures.value) c.in_ok-right.ensures.read) c.in_ok-left-2.ensures.read (subst (λ (z : Size). left.height < z.height) (sym s) higher) (omega arith) i.total;
+          (rw (← c.level-in-Some.ensures.value) c.in_ok-right.ensures.read) c.in_ok-left-2.ensures.read (subst (λ (z : Size). left.height < z.height) (sym s) higher) (omega arith) i.total;
     }
 
 pub expression-returns-clause-read : goal.expression-returns-clause-read

@@ -1,4 +1,4 @@
-use Rattle.std.proofs.Common.{◌≤◌, ◌<◌, ◌+◌, ◌-◌, ◌*◌, length}
+use Rattle.std.proofs.Common.{◌≤◌, ◌+◌, ◌-◌, ◌*◌}
 use Rattle.formula_texts.specs.Code.Reading as spec
 use Rattle.formula_texts.specs.Code.Seen.{seen, IsWithin}
 use Rattle.formula_texts.proofs.ReadingTurns.{IsLeft}

@@ -1,6 +1,5 @@
-use Rattle.std.proofs.Common.{◌≡◌, ◌++◌, ◌∙◌, [], length, ℕ, sym, ap, append-nil, arith}
+use Rattle.std.proofs.Common.{◌≡◌, ◌++◌, ◌∙◌, length, sym, ap, append-nil, arith}
 use Rattle.c_lang.specs.Names.{Bytes}
-use Rattle.formula_texts.specs.Code.Writing as spec
 use Rattle.formula_texts.proofs.StackLaws.{nothing_left}
 use Rattle.formula_texts.proofs.write.put_all.Goals as goal
 
