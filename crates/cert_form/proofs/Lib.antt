@@ -11,3 +11,4 @@ pub mod LineFeed
 pub mod FormulaLaws
 pub mod WrittenLaws
 pub mod UniqueLaws
+pub mod Examples

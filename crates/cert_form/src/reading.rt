@@ -1,6 +1,9 @@
-ghost use Rattle.std.specs.Prelude.{◌≡◌, IfOk, MatchOption, None, Some, IsUtf8};
+ghost use Rattle.std.specs.Prelude.{◌≡◌, ◌≤◌, List, Option, IfOk, IsUtf8, MatchOption, MatchResult, None, Some, length};
 ghost use Rattle.serde_json.specs.Read.{read as read_text};
+ghost use Rattle.c_lang.specs.Limits.{size_limit};
 ghost use Rattle.c_lang.specs.Refusals.{refused_at};
+ghost use Rattle.c_lang.specs.declared.unit.Unit.TheVariants.{Certs};
+ghost use Rattle.cert_form.specs.declared.cert.Cert.{Cert as CertData};
 ghost use Rattle.serde_json.specs.View.{view, items_view};
 ghost use Rattle.cert_form.specs.Certificates.{Each, AreCerts, IsAnswer, IsCert, IsRule, first_line};
 ghost use Rattle.cert_form.specs.Code.Reading.{Found};
@@ -96,7 +99,10 @@ fn refused(number: u8) -> Fail
 /// at its first line: with 27 where it is longer than `limit_of(Unit::Certs)`, and else with 25 where
 /// it holds no certificates.
 pub fn read_certs(alloc: Global, bytes: &[u8]) -> Result<Items<Option<Cert>>, Fail>
-    ensures { IsAnswer bytes.now result }
+    ensures answer { IsAnswer bytes.now result }
+    // Unless memory runs out, each text of certificates within the limit is read as these.
+    ensures only { (certs : List (Option CertData)) → length bytes.now ≤ size_limit Certs → AreCerts bytes.now certs
+        → MatchResult result (λ read. read ≡ certs) (λ fail. fail ≡ Fail.NoMemory) }
 {
     if bytes.len() > limit_of(Unit::Certs) {
         return Err(refused(PAST_LIMIT));
