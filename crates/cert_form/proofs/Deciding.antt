@@ -1,10 +1,9 @@
 -- A reading that finds exactly what a relation has.
-use Rattle.std.proofs.Common.{◌≡◌, ◌∙◌, Option, None, Some, List, [], ◌∷◌, option_map, option_and_then, refl, sym, ap}
-use Rattle.std.specs.Prelude.{⊤, Result, Ok, Err, IfOk}
-use Rattle.serde_json.specs.Data.{Data, Items, no_items, item, array}
-use Rattle.serde_json.specs.Find.{as_array}
-use Rattle.cert_form.specs.Certificates.{Each, IsArray, Part, IsPart}
-use Rattle.cert_form.specs.Code.Reading.{Found, each, single, double, together, Makes}
+use Rattle.std.proofs.Common.{◌≡◌, ◌∙◌, Option, None, Some, List, option_map, refl, sym}
+use Rattle.std.specs.Prelude.{Result, Ok, Err, IfOk}
+use Rattle.serde_json.specs.Data.{Items}
+use Rattle.cert_form.specs.Certificates.{Each, Part, IsPart}
+use Rattle.cert_form.specs.Code.Reading.{Found, Makes}
 use Rattle.cert_form.specs.declared.cert.Rule.{Rule}
 
 pub record Decides {D X : Type 0} (Is : X → D → Type 0) (f : D → Option X) : Type 0 where

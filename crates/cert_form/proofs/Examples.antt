@@ -1,5 +1,5 @@
 -- What the numbers and strings of a text are, where it is written out.
-use Rattle.std.proofs.Common.{◌≡◌, [], ◌∷◌, Option, None, Some, codes, refl, option_map, pos}
+use Rattle.std.proofs.Common.{◌≡◌, [], ◌∷◌, None, Some, codes, refl, option_map, pos}
 use Rattle.serde_json.specs.Read.{read}
 use Rattle.serde_json.proofs.OnLiterals.{serde_json_on_literals}
 use Rattle.cert_form.specs.Code.Reading.{whole_in, multiplier_at}

@@ -1,15 +1,15 @@
 -- A line feed at its end changes nothing in what a text is read as.
-use Rattle.std.proofs.Common.{◌≡◌, ◌∙◌, ◌<◌, ◌≤◌, ◌+◌, ◌-◌, ℕ, List, [], ◌∷◌, ◌++◌, Option, None, Some, Bool, true, false, cond, ◌&&◌, ◌||◌, ◌==◌, length, take, drop, option_map, option_and_then, length-append, refl, sym, ap, ap₂, arith, nat_eq, nat_lt}
+use Rattle.std.proofs.Common.{◌≡◌, ◌∙◌, ◌≤◌, ◌-◌, ℕ, List, [], ◌∷◌, ◌++◌, Option, None, Some, Bool, true, false, cond, ◌&&◌, ◌||◌, ◌==◌, length, drop, option_map, option_and_then, length-append, refl, ap, ap₂, arith, nat_eq}
 use Rattle.std.specs.Prelude.{⊤}
 use Rattle.std.proofs.Math.Bool.{and-false}
 use Rattle.std.proofs.lemmas.List.{drop-append-le, take-append-le}
 use Rattle.std.proofs.lemmas.List.Sums.{prefix_len-le-length}
 use Rattle.std.specs.List.{prefix_len, starts_with}
-use Rattle.std.specs.Char.{is_ascii_digit, encode_utf8}
+use Rattle.std.specs.Char.{is_ascii_digit}
 use Rattle.json.specs.Token.{Token}
-use Rattle.json.specs.Text.{Within, plain, after_backslash, after_u, after_high, content, code_unit, short_escape, prepend, surrogate_pair, is_high_surrogate, is_low_surrogate}
-use Rattle.json.specs.Word.{head, ends_word, after_digits, after_minus, after_sign, after_whole, after_fraction, after_exponent, after_number, number_before, literal, word}
-use Rattle.json.specs.Lex.{Mode, between, in_word, in_string, in_escape, Class, quote, backslash, operator, space, other, class, lex, lex_byte, string_token, tokens, punctuate, Place, fresh, operator_lexeme, Lexeme, token}
+use Rattle.json.specs.Text.{Within, plain, after_backslash, after_u, after_high, content, code_unit, short_escape}
+use Rattle.json.specs.Word.{ends_word, after_digits, after_minus, after_sign, after_whole, after_fraction, after_exponent, after_number, number_before, literal, word}
+use Rattle.json.specs.Lex.{Mode, between, in_word, in_string, in_escape, Class, quote, backslash, operator, space, other, class, lex, lex_byte, punctuate, fresh, operator_lexeme, Lexeme, token}
 use Rattle.json.specs.Ascii as ascii
 use Rattle.json.specs.Json as json
 use Rattle.serde_json.specs.Read.{read, of_json, max_depth}

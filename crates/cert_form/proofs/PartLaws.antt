@@ -1,10 +1,9 @@
 -- What is read of a part of a rule is what stands for it.
-use Rattle.std.proofs.Common.{◌≡◌, ◌∙◌, ◌<◌, ◌^◌, ℕ, ℤ, List, [], ◌∷◌, Option, None, Some, Bool, true, false, option_map, option_and_then, refl, sym, ap, arith, nat_lt, if◌then◌else◌, subst}
-use Rattle.std.specs.Prelude.{⊤}
+use Rattle.std.proofs.Common.{◌≡◌, ◌∙◌, ◌<◌, ◌^◌, ℕ, ℤ, List, [], ◌∷◌, Option, None, Some, Bool, true, false, option_map, option_and_then, refl, ap, arith, nat_lt, if◌then◌else◌, subst}
 use Rattle.std.proofs.lemmas.Bool.Decides.{nat_tests}
 use Rattle.serde_json.specs.Data.{Data, null, boolean, number, string, array, object, Items, no_items, item, unsigned, negative, float}
-use Rattle.serde_json.specs.Find.{as_str, as_array, as_number, as_u64}
-use Rattle.cert_form.specs.Certificates.{Part, whole, multiplier, sum, form, term, name, IsWhole, IsMultiplier, IsPair, IsPart, Each, IsArray}
+use Rattle.serde_json.specs.Find.{as_str, as_array}
+use Rattle.cert_form.specs.Certificates.{Part, whole, multiplier, sum, IsWhole, IsMultiplier, IsPair, IsPart, Each, IsArray}
 use Rattle.cert_form.specs.Code.Numbers.{multiplier_in}
 use Rattle.cert_form.specs.Code.Reading.{whole_in, multiplier_at, pair_in, sum_in, each, single, double, together, only_whole, two_wholes, only_sum, sum_and_multiplier}
 use Rattle.cert_form.proofs.Deciding.{Decides}
@@ -96,9 +95,13 @@ pair-sound : (d : Data) (p : ℕ × ℤ) → pair_in d ≡ Some p → IsPair p d
 pair-sound d p e =
     let both = then-some (option_and_then double (as_array d)) (λ two. together (whole_in two.0) (multiplier_at two.1)) p e in
     let items = then-some (as_array d) double both.value both.first in
-    let numbers = both-some (whole_in both.value.0) (multiplier_at both.value.1) p both.second in
-    (both.value.0, both.value.1, array-is d items.value items.first ∙ ap array (double-is items.value both.value items.second),
-        whole-decides.sound both.value.0 p.0 numbers.left, multiplier-decides.sound both.value.1 p.1 numbers.right)
+    let numbers = both-some (whole_in both.value.0) (multiplier_at both.value.1) p both.second in (
+      both.value.0,
+      both.value.1,
+      array-is d items.value items.first ∙ ap array (double-is items.value both.value items.second),
+      whole-decides.sound both.value.0 p.0 numbers.left,
+      multiplier-decides.sound both.value.1 p.1 numbers.right,
+    )
 
 pair-complete : (d : Data) (p : ℕ × ℤ) → IsPair p d → pair_in d ≡ Some p
 pair-complete d p is = ap pair_in is.2 ∙ rw (whole-decides.complete is.0 p.0 is.3, multiplier-decides.complete is.1 p.1 is.4) refl

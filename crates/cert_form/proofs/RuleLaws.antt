@@ -1,11 +1,11 @@
 -- A rule is read by its word.
-use Rattle.std.proofs.Common.{◌≡◌, ◌∙◌, ◌⊎◌, inl, inr, ℕ, ℤ, List, [], ◌∷◌, Option, None, Some, Bool, true, false, option_map, option_and_then, codes, refl, sym, ap, subst, if◌then◌else◌}
-use Rattle.std.specs.Prelude.{⊤, bytes_eq}
-use Rattle.serde_json.specs.Data.{Data, null, boolean, number, string, array, object, Items, no_items, item}
+use Rattle.std.proofs.Common.{◌≡◌, ◌∙◌, inl, inr, ℕ, ℤ, List, [], ◌∷◌, Option, None, Some, Bool, true, false, option_map, codes, refl, sym, ap, subst, if◌then◌else◌}
+use Rattle.std.specs.Prelude.{bytes_eq}
+use Rattle.serde_json.specs.Data.{Data, string, array, Items, no_items, item}
 use Rattle.serde_json.specs.Find.{as_str, as_array}
 use Rattle.std.proofs.lemmas.Slice.Eq.{bytes_eq-Decides}
 use Rattle.terms.specs.Trees.{TermTree}
-use Rattle.cert_form.specs.Certificates.{Part, word, whole, multiplier, sum, form, term, name, parts, IsPart, IsRule, Each}
+use Rattle.cert_form.specs.Certificates.{Part, word, whole, multiplier, sum, term, name, parts, IsPart, IsRule, Each}
 use Rattle.cert_form.specs.Code.Reading.{Found, Makes, IsOf, single, double, whole_in, word_in, word_first, only_whole, two_wholes, only_sum, sum_and_multiplier}
 use Rattle.cert_form.specs.declared.cert.Rule.{Rule}
 use Rattle.cert_form.specs.declared.cert.Rule.TheVariants as rule
@@ -13,7 +13,7 @@ use Rattle.cert_form.specs.declared.word.Word.{Word}
 use Rattle.cert_form.specs.declared.word.Word.TheVariants.{Close, Both, Case, Cut, Round, Range, Same, Read, Inst, Truth, Divide}
 use Rattle.cert_form.proofs.Deciding.{found-made}
 use Rattle.cert_form.proofs.PartLaws.{single-is, double-is, whole-decides, only_whole-decides, only_sum-decides, two_wholes-decides, sum_and_multiplier-decides}
-use Rattle.cert_form.proofs.TextLaws.{string-is, array-is}
+use Rattle.cert_form.proofs.TextLaws.{string-is}
 
 -- ---- words
 

@@ -1,11 +1,10 @@
 -- A text is one list of certificates.
-use Rattle.std.proofs.Common.{◌≡◌, ◌∙◌, ◌⊎◌, inl, inr, ℕ, ℤ, List, [], ◌∷◌, Option, None, Some, refl, sym, ap, ap₂, subst}
-use Rattle.std.specs.Prelude.{⊤}
-use Rattle.serde_json.specs.Data.{Data, null, string, array, Items, no_items, item}
+use Rattle.std.proofs.Common.{◌≡◌, ◌∙◌, inl, inr, ℕ, ℤ, List, [], ◌∷◌, Option, None, Some, refl, sym, ap, ap₂, subst}
+use Rattle.serde_json.specs.Data.{Data, string, array, Items, no_items, item}
 use Rattle.terms.specs.Trees.{FormTree, TermTree}
 use Rattle.terms.specs.declared.sym.Sym.{Sym}
 use Rattle.formula_texts.specs.Texts.{IsFormText, IsTermText, IsNameText}
-use Rattle.cert_form.specs.Certificates.{Part, whole, multiplier, sum, form, term, name, parts, Each, IsArray, IsPart, IsRule, IsCert, AreCerts, IsText}
+use Rattle.cert_form.specs.Certificates.{Part, whole, multiplier, sum, form, term, name, Each, IsArray, IsPart, IsRule, IsCert, AreCerts, IsText}
 use Rattle.cert_form.specs.Code.Reading.{Makes, IsOf}
 use Rattle.cert_form.specs.declared.cert.Cert.{Cert}
 use Rattle.cert_form.specs.declared.cert.Rule.{Rule}
@@ -15,7 +14,7 @@ use Rattle.cert_form.specs.declared.word.Word.TheVariants.{Close, Both, Case, Cu
 use Rattle.cert_form.proofs.Deciding.{unique}
 use Rattle.cert_form.proofs.FormulaLaws.{one-form, one-term, one-name}
 use Rattle.cert_form.proofs.PartLaws.{only_whole-decides, only_sum-decides, two_wholes-decides, sum_and_multiplier-decides, whole-decides}
-use Rattle.cert_form.proofs.RuleLaws.{IsSplit, split, same-spelling}
+use Rattle.cert_form.proofs.RuleLaws.{split, same-spelling}
 
 -- ---- parts
 

@@ -1,9 +1,9 @@
 -- What is written is read back.
-use Rattle.std.proofs.Common.{◌≡◌, ◌∙◌, ◌≤◌, ℕ, zero, suc, ℤ, List, [], ◌∷◌, ◌++◌, Option, None, Some, Bool, true, false, map, refl, sym, ap, arith}
-use Rattle.std.specs.Prelude.{IsUtf8, ⊤}
+use Rattle.std.proofs.Common.{◌≡◌, ◌∙◌, ◌≤◌, ℕ, zero, suc, ℤ, List, [], ◌∷◌, ◌++◌, Option, None, Some, false, map, refl, ap, arith}
+use Rattle.std.specs.Prelude.{IsUtf8}
 use Rattle.std.specs.Str.{IsAscii}
 use Rattle.std.proofs.lemmas.Str.{IsUtf8-append, IsUtf8-from_ascii, utf8_lossy-IsUtf8}
-use Rattle.serde_json.specs.Data.{Data, null, number, string, array, unsigned, depth, items_depth, Items}
+use Rattle.serde_json.specs.Data.{Data, string, depth, items_depth}
 use Rattle.serde_json.specs.Read.{read, max_depth}
 use Rattle.serde_json.specs.View.{items_of}
 use Rattle.serde_json.specs.Written.{has_float, items_have_float}
@@ -96,6 +96,9 @@ feed-ascii (suc i) = omega arith
 
 pub text-written : (certs : List (Option Cert)) (text : List ℕ) → EachIs IsWritable certs → IsUtf8 text → read text ≡ Some (list_data cert_data certs)
     → AreCerts (text ++ 10 ∷ []) certs
-text-written certs text writable utf8 reads =
-    (list_data cert_data certs, IsUtf8-append text (10 ∷ []) utf8 (IsUtf8-from_ascii (10 ∷ []) feed-ascii), read-feed text ∙ reads,
-        list-written IsCert cert_data IsWritable cert-written certs writable)
+text-written certs text writable utf8 reads = (
+  list_data cert_data certs,
+  IsUtf8-append text (10 ∷ []) utf8 (IsUtf8-from_ascii (10 ∷ []) feed-ascii),
+  read-feed text ∙ reads,
+  list-written IsCert cert_data IsWritable cert-written certs writable,
+)

@@ -29,12 +29,30 @@ impl Drop for Rule {
             Rule::Cut { form: _form } => {}
             Rule::Round { sum: _sum, by: _by } => {}
             Rule::RangeName { name: _name } => {}
-            Rule::RangeRead { fact: _fact, place: _place } => {}
-            Rule::Same { fact: _fact, at: _at } => {}
-            Rule::Read { fact: _fact, place: _place } => {}
-            Rule::Inst { fact: _fact, term: _term } => {}
-            Rule::Truth { fact: _fact, place: _place } => {}
-            Rule::Divide { fact: _fact, place: _place } => {}
+            Rule::RangeRead {
+                fact: _fact,
+                place: _place,
+            } => {}
+            Rule::Same {
+                fact: _fact,
+                at: _at,
+            } => {}
+            Rule::Read {
+                fact: _fact,
+                place: _place,
+            } => {}
+            Rule::Inst {
+                fact: _fact,
+                term: _term,
+            } => {}
+            Rule::Truth {
+                fact: _fact,
+                place: _place,
+            } => {}
+            Rule::Divide {
+                fact: _fact,
+                place: _place,
+            } => {}
         }
     }
 }

@@ -78,7 +78,10 @@ fn read_pairs(alloc: Global, values: &[Value]) -> Result<Option<Items<(u32, i128
 }
 
 /// Numbers of facts with their multipliers.
-pub(crate) fn read_sum(alloc: Global, value: &Value) -> Result<Option<Items<(u32, i128)>>, AllocError>
+pub(crate) fn read_sum(
+    alloc: Global,
+    value: &Value,
+) -> Result<Option<Items<(u32, i128)>>, AllocError>
     ensures { IfOk result (λ read. read ≡ sum_in (view value.now)) }
 {
     match value.as_array() {

@@ -10,4 +10,4 @@ use Rattle.cert_form.proofs.rules.read_cut.Goals as goal
 pub returns-in-None : goal.returns-in-None
 returns-in-None c =
     no-one rule.Cut form (items_view c.args.args.now) (view c.in-Some.form.now) (sym c.in-Some.ensures)
-        (subst (λ (o : Option FormTree). Found (λ f. IsPart (form f) (view c.in-Some.form.now)) o) c.in-None.is c.in_ok-form.ensures)
+    (subst (λ (o : Option FormTree). Found (λ f. IsPart (form f) (view c.in-Some.form.now)) o) c.in-None.is c.in_ok-form.ensures)

@@ -12,4 +12,4 @@ pub returns-in-Some-of : goal.returns-in-Some-of
 returns-in-Some-of c =
     let first = first-is (items_view c.args.parts.now) (c.in-Some.word.now, items_view c.in-Some.args.now) (sym c.in-Some.ensures) in
     subst (λ (ds : Items). IfOk c.read_by.result (Found (λ r. IsRule r (array ds)))) (sym first)
-        (on-ok _ _ _ (λ o h. found-word c.in-Some.word.now (items_view c.in-Some.args.now) c.in-Some-of.word o (sym c.of.ensures ∙ c.in-Some-of.is) h) c.read_by.ensures)
+    (on-ok _ _ _ (λ o h. found-word c.in-Some.word.now (items_view c.in-Some.args.now) c.in-Some-of.word o (sym c.of.ensures ∙ c.in-Some-of.is) h) c.read_by.ensures)

@@ -11,4 +11,4 @@ use Rattle.cert_form.proofs.rules.read_range_name.Goals as goal
 pub returns-in-None : goal.returns-in-None
 returns-in-None c =
     no-one rule.RangeName name (item (view c.args.name.now) no_items) (view c.args.name.now) refl
-        (subst (λ (o : Option Sym). Found (λ x. IsPart (name x) (view c.args.name.now)) o) c.in-None.is c.in_ok-name.ensures)
+    (subst (λ (o : Option Sym). Found (λ x. IsPart (name x) (view c.args.name.now)) o) c.in-None.is c.in_ok-name.ensures)

@@ -1,5 +1,5 @@
-use Rattle.std.proofs.Common.{◌≡◌, ◌∙◌, ap, ◌≤◌, ◌∷◌, [], ◌++◌, List, ℕ}
-use Rattle.std.specs.Prelude.{Some, false}
+use Rattle.std.proofs.Common.{◌∙◌, ap, ◌≤◌, ◌∷◌, [], ◌++◌, List, ℕ}
+use Rattle.std.specs.Prelude.{Some}
 use Rattle.serde_json.specs.Data.{Data, depth}
 use Rattle.serde_json.specs.Read.{max_depth}
 use Rattle.serde_json.specs.View.{view}
