@@ -3,7 +3,7 @@ use terms::{Form, Sym, Term};
 
 /// A rule of a certificate. `fact` and `at` are numbers of facts, `place` counts the terms in a fact
 /// that the rule may be about, and `sum` has the numbers of facts with their multipliers.
-#[derive(Debug)]
+#[derive(Debug, Drop)]
 pub enum Rule {
     Close { sum: Items<(u32, i128)> },
     Both { fact: u32 },
@@ -17,44 +17,6 @@ pub enum Rule {
     Inst { fact: u32, term: Term },
     Truth { fact: u32, place: u32 },
     Divide { fact: u32, place: u32 },
-}
-
-// By hand, so that a proof has one step for each rule that is dropped.
-impl Drop for Rule {
-    fn drop(self) {
-        match self {
-            Rule::Close { sum: _sum } => {}
-            Rule::Both { fact: _fact } => {}
-            Rule::Case { fact: _fact } => {}
-            Rule::Cut { form: _form } => {}
-            Rule::Round { sum: _sum, by: _by } => {}
-            Rule::RangeName { name: _name } => {}
-            Rule::RangeRead {
-                fact: _fact,
-                place: _place,
-            } => {}
-            Rule::Same {
-                fact: _fact,
-                at: _at,
-            } => {}
-            Rule::Read {
-                fact: _fact,
-                place: _place,
-            } => {}
-            Rule::Inst {
-                fact: _fact,
-                term: _term,
-            } => {}
-            Rule::Truth {
-                fact: _fact,
-                place: _place,
-            } => {}
-            Rule::Divide {
-                fact: _fact,
-                place: _place,
-            } => {}
-        }
-    }
 }
 
 /// A certificate: its rules, each before those of its children.
