@@ -3,7 +3,7 @@ use Rattle.std.proofs.Common.{◌≡◌, ◌∙◌, ℕ, List, Option, None, Som
 use Rattle.std.specs.Prelude.{MatchOption}
 use Rattle.serde_json.specs.Data.{Data, null, boolean, number, string, array, object, Items}
 use Rattle.serde_json.specs.Find.{as_str, as_array}
-use Rattle.cert_form.specs.Certificates.{IsText}
+use Rattle.cert_form.specs.Certificates.{IsString}
 use Rattle.cert_form.specs.Code.Reading.{Found}
 
 pub string-is : (d : Data) (text : List ℕ) → as_str d ≡ Some text → d ≡ string text
@@ -22,11 +22,11 @@ array-is (string s) ds e = absurd (cc)
 array-is (array es) ds e = cc
 array-is (object ms) ds e = absurd (cc)
 
-pub no-text : {X : Type 0} (P : List ℕ → X → Type 0) (d : Data) → as_str d ≡ None → (x : X) → IsText (λ text. P text x) d → ⊥
+pub no-text : {X : Type 0} (P : List ℕ → X → Type 0) (d : Data) → as_str d ≡ None → (x : X) → IsString (λ text. P text x) d → ⊥
 no-text P d none x h = let both = sym none ∙ ap as_str h.1 in absurd (cc)
 
 pub found-text : {X : Type 0} (P : List ℕ → X → Type 0) (d : Data) (text : List ℕ) (o : Option X) → as_str d ≡ Some text
-    → MatchOption o ((x : X) → P text x → ⊥) (λ x. P text x) → Found (λ x. IsText (λ t. P t x) d) o
+    → MatchOption o ((x : X) → P text x → ⊥) (λ x. P text x) → Found (λ x. IsString (λ t. P t x) d) o
 found-text P d text None is found = λ x h.
     let both : Some text ≡ Some h.0 = sym is ∙ ap as_str h.1 in
     let same : text ≡ h.0 = cc in

@@ -4,7 +4,7 @@ use Rattle.serde_json.specs.Data.{Data, string, array, Items, no_items, item}
 use Rattle.terms.specs.Trees.{FormTree, TermTree}
 use Rattle.terms.specs.declared.sym.Sym.{Sym}
 use Rattle.formula_texts.specs.Texts.{IsFormText, IsTermText, IsNameText}
-use Rattle.cert_form.specs.Certificates.{Part, whole, multiplier, sum, form, term, name, Each, IsArray, IsPart, IsRule, IsCert, AreCerts, IsText}
+use Rattle.cert_form.specs.Certificates.{Part, whole, multiplier, sum, form, term, name, Each, IsArray, IsPart, IsRule, IsCert, AreCerts, IsString}
 use Rattle.cert_form.specs.Code.Reading.{Makes, IsOf}
 use Rattle.cert_form.specs.declared.cert.Cert.{Cert}
 use Rattle.cert_form.specs.declared.cert.Rule.{Rule}
@@ -19,7 +19,7 @@ use Rattle.cert_form.proofs.RuleLaws.{split, same-spelling}
 -- ---- parts
 
 text-unique : {X : Type 0} (P : List ℕ → X → Type 0) → ((text : List ℕ) (x y : X) → P text x → P text y → x ≡ y)
-    → (d : Data) (x y : X) → IsText (λ text. P text x) d → IsText (λ text. P text y) d → x ≡ y
+    → (d : Data) (x y : X) → IsString (λ text. P text x) d → IsString (λ text. P text y) d → x ≡ y
 text-unique P one d x y h k =
     let both : string h.0 ≡ string k.0 = sym h.1 ∙ k.1 in
     let same : h.0 ≡ k.0 = cc in

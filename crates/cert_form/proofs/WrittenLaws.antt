@@ -1,6 +1,7 @@
 -- What is written is read back.
 use Rattle.std.proofs.Common.{◌≡◌, ◌∙◌, ◌≤◌, ℕ, zero, suc, ℤ, List, [], ◌∷◌, ◌++◌, Option, None, Some, false, map, refl, ap, arith}
-use Rattle.std.specs.Prelude.{IsUtf8}
+use Rattle.std.specs.Prelude.{All, IsUtf8}
+use Rattle.std.proofs.lemmas.List.Elements.{All-head, All-tail}
 use Rattle.std.specs.Str.{IsAscii}
 use Rattle.std.proofs.lemmas.Str.{IsUtf8-append, IsUtf8-from_ascii, utf8_lossy-IsUtf8}
 use Rattle.serde_json.specs.Data.{Data, string, depth, items_depth}
@@ -9,19 +10,19 @@ use Rattle.serde_json.specs.View.{items_of}
 use Rattle.serde_json.specs.Written.{has_float, items_have_float}
 use Rattle.formula_texts.specs.Written.{form_text, term_text, name_text}
 use Rattle.cert_form.specs.Certificates.{Part, word, whole, multiplier, sum, form, term, name, parts, Each, IsArray, IsPair, IsPart, IsRule, IsCert, AreCerts}
-use Rattle.cert_form.specs.Written.{EachIs, IsWritablePair, IsWritablePart, IsWritableRule, IsWritable, list_data, pair_data, part_data, rule_data, cert_data}
+use Rattle.cert_form.specs.Written.{IsWritablePair, IsWritablePart, IsWritableRule, IsWritable, list_data, pair_data, part_data, rule_data, cert_data}
 use Rattle.cert_form.specs.declared.cert.Cert.{Cert}
 use Rattle.cert_form.specs.declared.cert.Rule.{Rule}
 use Rattle.cert_form.proofs.FormulaLaws.{form-read, term-read, name-read, form-utf8, term-utf8, name-utf8}
 use Rattle.cert_form.proofs.LineFeed.{read-feed}
 
 each-written : {X : Type 0} (Is : X → Data → Type 0) (data_of : X → Data) (P : X → Type 0) → ((x : X) → P x → Is x (data_of x))
-    → (xs : List X) → EachIs P xs → Each Is xs (items_of (map data_of xs))
+    → (xs : List X) → All P xs → Each Is xs (items_of (map data_of xs))
 each-written Is data_of P written [] h = tt
-each-written Is data_of P written (x ∷ xs) h = (written x h.0, each-written Is data_of P written xs h.1)
+each-written Is data_of P written (x ∷ xs) h = (written x (All-head P x xs h), each-written Is data_of P written xs (All-tail P x xs h))
 
 list-written : {X : Type 0} (Is : X → Data → Type 0) (data_of : X → Data) (P : X → Type 0) → ((x : X) → P x → Is x (data_of x))
-    → (xs : List X) → EachIs P xs → IsArray Is xs (list_data data_of xs)
+    → (xs : List X) → All P xs → IsArray Is xs (list_data data_of xs)
 list-written Is data_of P written xs h = (items_of (map data_of xs), refl, each-written Is data_of P written xs h)
 
 pair-written : (p : ℕ × ℤ) → IsWritablePair p → IsPair p (pair_data p)
@@ -94,7 +95,7 @@ feed-ascii : IsAscii (10 ∷ [])
 feed-ascii zero = omega arith
 feed-ascii (suc i) = omega arith
 
-pub text-written : (certs : List (Option Cert)) (text : List ℕ) → EachIs IsWritable certs → IsUtf8 text → read text ≡ Some (list_data cert_data certs)
+pub text-written : (certs : List (Option Cert)) (text : List ℕ) → All IsWritable certs → IsUtf8 text → read text ≡ Some (list_data cert_data certs)
     → AreCerts (text ++ 10 ∷ []) certs
 text-written certs text writable utf8 reads = (
   list_data cert_data certs,

@@ -44,17 +44,17 @@ parts (Inst i t) = word (codes "inst") ∷ whole i ∷ term t ∷ []
 parts (Truth i k) = word (codes "truth") ∷ whole i ∷ whole k ∷ []
 parts (Divide i k) = word (codes "divide") ∷ whole i ∷ whole k ∷ []
 
--- a whole number in digits alone
+-- a whole number below 2^32 in digits alone: with a point, an exponent or a `-` it isn't `unsigned`
 abbrev pub IsWhole : ℕ → Data → Type 0
 IsWhole n d = (d ≡ number (unsigned n)) × (n < 2 ^ 32)
 
--- a string with `0`, or with digits without leading zero that may have a `-` before them
+-- a string with `0`, or with digits without leading zero and perhaps a `-` before them
 abbrev pub IsMultiplier : ℤ → Data → Type 0
 IsMultiplier z d = (d ≡ string (signed_decimal z)) × (nat_abs z ≤ 2 ^ 100)
 
 -- a string with a text of which P holds
-abbrev pub IsText : (List ℕ → Type 0) → Data → Type 0
-IsText P d = (text : List ℕ) × (d ≡ string text) × P text
+abbrev pub IsString : (List ℕ → Type 0) → Data → Type 0
+IsString P d = (text : List ℕ) × (d ≡ string text) × P text
 
 -- the items stand for these, one for one
 abbrev pub Each : {X : Type 0} → (X → Data → Type 0) → List X → Items → Type 0
@@ -71,15 +71,17 @@ IsArray Is xs d = (ds : Items) × (d ≡ array ds) × Each Is xs ds
 abbrev pub IsPair : ℕ × ℤ → Data → Type 0
 IsPair p d = (i m : Data) × (d ≡ array (item i (item m no_items))) × IsWhole p.0 i × IsMultiplier p.1 m
 
+-- what stands for a part
 abbrev pub IsPart : Part → Data → Type 0
 IsPart (word text) d = d ≡ string text
 IsPart (whole n) d = IsWhole n d
 IsPart (multiplier z) d = IsMultiplier z d
 IsPart (sum pairs) d = IsArray IsPair pairs d
-IsPart (form f) d = IsText (λ text. IsFormText text f) d
-IsPart (term t) d = IsText (λ text. IsTermText text t) d
-IsPart (name x) d = IsText (λ text. IsNameText text x) d
+IsPart (form f) d = IsString (λ text. IsFormText text f) d
+IsPart (term t) d = IsString (λ text. IsTermText text t) d
+IsPart (name x) d = IsString (λ text. IsNameText text x) d
 
+-- what stands for a rule, and for a condition's certificate or its absence
 abbrev pub IsRule : Rule → Data → Type 0
 IsRule rule d = IsArray IsPart (parts rule) d
 
@@ -87,7 +89,7 @@ abbrev pub IsCert : Option Cert → Data → Type 0
 IsCert None d = d ≡ null
 IsCert (Some cert) d = IsArray IsRule cert.rules d
 
--- the text is of these certificates
+-- the text is of these certificates; `read` gives the value of a text of JSON
 abbrev pub AreCerts : List ℕ → List (Option Cert) → Type 0
 AreCerts text certs = (d : Data) × IsUtf8 text × (read text ≡ Some d) × IsArray IsCert certs d
 

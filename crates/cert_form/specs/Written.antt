@@ -1,5 +1,5 @@
 -- The text that is written for certificates, and which of them it is read back as.
-use Rattle.std.specs.Prelude.{◌≡◌, ◌<◌, ◌≤◌, ◌^◌, ℕ, ℤ, nat_abs, List, [], ◌∷◌, ◌++◌, map, Option, None, Some, true, ⊤}
+use Rattle.std.specs.Prelude.{◌≡◌, ◌<◌, ◌≤◌, ◌^◌, ℕ, ℤ, nat_abs, List, [], ◌∷◌, ◌++◌, map, Option, None, Some, true, All, ⊤}
 use Rattle.std.specs.Str.Lossy.{utf8_lossy}
 use Rattle.std.specs.Fmt.{signed_decimal}
 use Rattle.serde_json.specs.Data.{Data, null, number, string, array, unsigned}
@@ -48,10 +48,6 @@ certs_text certs = compact_text (list_data cert_data certs) ++ 10 ∷ []
 
 -- ---- what can be written
 
-abbrev pub EachIs : {X : Type 0} → (X → Type 0) → List X → Type 0
-EachIs P [] = ⊤
-EachIs P (x ∷ xs) = P x × EachIs P xs
-
 abbrev pub IsWritablePair : ℕ × ℤ → Type 0
 IsWritablePair p = (p.0 < 2 ^ 32) × (nat_abs p.1 ≤ 2 ^ 100)
 
@@ -59,15 +55,15 @@ abbrev pub IsWritablePart : Part → Type 0
 IsWritablePart (word text) = ⊤
 IsWritablePart (whole n) = n < 2 ^ 32
 IsWritablePart (multiplier z) = nat_abs z ≤ 2 ^ 100
-IsWritablePart (sum pairs) = EachIs IsWritablePair pairs
+IsWritablePart (sum pairs) = All IsWritablePair pairs
 IsWritablePart (form f) = has_form_text f ≡ true
 IsWritablePart (term t) = has_term_text t ≡ true
 IsWritablePart (name x) = has_name_text x ≡ true
 
 -- its numbers are in range, and its forms, terms and names have texts
 abbrev pub IsWritableRule : Rule → Type 0
-IsWritableRule rule = EachIs IsWritablePart (parts rule)
+IsWritableRule rule = All IsWritablePart (parts rule)
 
 abbrev pub IsWritable : Option Cert → Type 0
 IsWritable None = ⊤
-IsWritable (Some cert) = EachIs IsWritableRule cert.rules
+IsWritable (Some cert) = All IsWritableRule cert.rules

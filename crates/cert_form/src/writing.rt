@@ -1,7 +1,7 @@
-ghost use Rattle.std.specs.Prelude.{◌≡◌, [], ◌∷◌, IfOk};
+ghost use Rattle.std.specs.Prelude.{◌≡◌, [], ◌∷◌, All, IfOk};
 ghost use Rattle.serde_json.specs.Data.{array, string};
 ghost use Rattle.serde_json.specs.View.{view, items_of};
-ghost use Rattle.cert_form.specs.Written.{list_data, rule_data, cert_data, whole_data, certs_text, EachIs, IsWritable};
+ghost use Rattle.cert_form.specs.Written.{list_data, rule_data, cert_data, whole_data, certs_text, IsWritable};
 ghost use Rattle.cert_form.specs.Certificates.{AreCerts};
 ghost use Rattle.cert_form.specs.declared.cert.Rule.TheVariants as rule;
 
@@ -116,7 +116,7 @@ fn certs_value(alloc: Global, certs: &[Option<Cert>]) -> Result<Value, AllocErro
 /// theirs, so within the size limit of texts it is read back as them.
 pub fn write_certs(alloc: Global, certs: &[Option<Cert>]) -> Result<Vec<u8>, AllocError>
     ensures text { IfOk result (λ text. text.items ≡ certs_text certs.now) }
-    ensures reads_back { IfOk result (λ text. EachIs IsWritable certs.now → AreCerts text.items certs.now) }
+    ensures reads_back { IfOk result (λ text. All IsWritable certs.now → AreCerts text.items certs.now) }
 {
     let value = certs_value(alloc, certs)?;
     let mut text = value.to_vec(alloc)?;
