@@ -12,7 +12,7 @@ use Rattle.cert_form.specs.declared.cert.Rule.TheVariants as rule
 use Rattle.cert_form.specs.declared.word.Word.{Word}
 use Rattle.cert_form.specs.declared.word.Word.TheVariants.{Close, Both, Case, Cut, Round, Range, Same, Read, Inst, Truth, Divide}
 use Rattle.cert_form.proofs.Deciding.{unique}
-use Rattle.cert_form.proofs.FormulaLaws.{one-form, one-term, one-name}
+use Rattle.cert_form.proofs.FormulaLaws.{one_form, one_term, one_name}
 use Rattle.cert_form.proofs.PartLaws.{only_whole-decides, only_sum-decides, two_wholes-decides, sum_and_multiplier-decides, whole-decides}
 use Rattle.cert_form.proofs.RuleLaws.{split, same-spelling}
 
@@ -26,13 +26,13 @@ text-unique P one d x y h k =
     one k.0 x y (subst (λ t. P t x) same h.2) k.2
 
 form-unique : (d : Data) (f g : FormTree) → IsPart (form f) d → IsPart (form g) d → f ≡ g
-form-unique = text-unique (λ t f. IsFormText t f) one-form
+form-unique = text-unique (λ t f. IsFormText t f) one_form
 
 term-unique : (d : Data) (t u : TermTree) → IsPart (term t) d → IsPart (term u) d → t ≡ u
-term-unique = text-unique (λ t f. IsTermText t f) one-term
+term-unique = text-unique (λ t f. IsTermText t f) one_term
 
 name-unique : (d : Data) (x y : Sym) → IsPart (name x) d → IsPart (name y) d → x ≡ y
-name-unique = text-unique (λ t f. IsNameText t f) one-name
+name-unique = text-unique (λ t f. IsNameText t f) one_name
 
 one-unique : {X : Type 0} (part : X → Part) → ((d : Data) (x y : X) → IsPart (part x) d → IsPart (part y) d → x ≡ y)
     → (args : Items) (x y : X) → Each IsPart (part x ∷ []) args → Each IsPart (part y ∷ []) args → x ≡ y
