@@ -71,7 +71,7 @@ def rule(i):
         ["range", i, 0],
         ["same", i, i + 1],
         ["read", i, 0],
-        ["inst", i, f"(n + {i})"],
+        ["inst", i, f"n + {i}"],
         ["truth", i, 3],
         ["divide", i, 2],
     ][i % 12]
