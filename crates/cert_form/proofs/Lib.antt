@@ -1,0 +1,14 @@
+pub mod Digits
+pub mod Counts
+pub mod EachLoops
+pub mod Deciding
+pub mod TextLaws
+pub mod Multipliers
+pub mod PartLaws
+pub mod RuleLaws
+pub mod RelationLoops
+pub mod LineFeed
+pub mod FormulaLaws
+pub mod WrittenLaws
+pub mod UniqueLaws
+pub mod Examples
