@@ -2,6 +2,7 @@ pub mod Stub
 pub mod Sameness
 pub mod Linear
 pub mod Rows
+pub mod Worth
 pub mod Places
 pub mod Rules
 pub mod Occurrences
