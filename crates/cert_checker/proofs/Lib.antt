@@ -1,2 +1,4 @@
 pub mod SameLaws
 pub mod WorthLaws
+pub mod CoefficientLaws
+pub mod LineLaws
