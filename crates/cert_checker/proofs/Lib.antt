@@ -2,3 +2,4 @@ pub mod SameLaws
 pub mod WorthLaws
 pub mod CoefficientLaws
 pub mod LineLaws
+pub mod CombinationLaws
