@@ -92,7 +92,7 @@ combination-at v facts pairs line all e = added-at v facts all pairs nothing lin
 
 -- ---- rows that are false
 
-zero-is : (z : ℤ) → is_zero z ≡ true → z ≡ pos 0
+pub zero-is : (z : ℤ) → is_zero z ≡ true → z ≡ pos 0
 zero-is (pos zero) e = refl
 zero-is (pos (suc n)) e = absurd cc
 zero-is (negsuc n) e = absurd cc
