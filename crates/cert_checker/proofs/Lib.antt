@@ -5,3 +5,5 @@ pub mod LineLaws
 pub mod CombinationLaws
 pub mod QuotientLaws
 pub mod RoundingLaws
+pub mod PlaceLaws
+pub mod RuleLaws

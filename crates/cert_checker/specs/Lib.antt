@@ -6,4 +6,5 @@ pub mod Worth
 pub mod Places
 pub mod Rules
 pub mod Occurrences
+pub mod Fails
 pub mod Checks
