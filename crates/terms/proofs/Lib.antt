@@ -1,10 +1,1 @@
-pub mod Choices
-pub mod SymbolLaws
-pub mod TreeLemmas
-pub mod NameLists
-pub mod FreeLaws
-pub mod NameLaws
-pub mod ReplacingLaws
-pub mod BelowLaws
-pub mod KeptLaws
-pub mod ValueLaws
+pub mod OperandLaws

@@ -1,5 +1,8 @@
 pub mod Symbols
 pub mod Trees
+pub mod Nodes
+pub mod Equality
+pub mod Views
 pub mod Names
 pub mod Truth
 pub mod Replacing

@@ -2,8 +2,10 @@
 use Rattle.std.specs.Prelude.{Bool, false, not, if◌then◌else◌, List, [], ◌∷◌, ◌++◌, filter, map}
 use Rattle.std.specs.List.{list_any}
 use Rattle.terms.specs.declared.sym.Sym.{Sym}
+use Rattle.terms.specs.declared.fact.Fact.{Fact}
+use Rattle.terms.specs.declared.fact.Fact.TheVariants as fact
 use Rattle.terms.specs.Symbols.{same_sym}
-use Rattle.terms.specs.Trees.{TermTree, number, name, plus, minus, times, divided, remainder, read, truth, ArrayTree, array, stored, FormTree, always, never, at_most, equal, denied, both, either, FactTree, plain, all}
+use Rattle.terms.specs.Trees.{TermTree, number, name, plus, minus, times, divided, remainder, read, truth, ArrayTree, array, stored, FormTree, always, never, at_most, equal, denied, both, either}
 
 -- a name where it stands: as a number, or as an array
 pub data Occurrence : Type 0 where
@@ -45,14 +47,14 @@ is_number x (as_number y) = same_sym x y
 is_number x (as_array y) = false
 
 -- the free names: those of the bounds, and those of the body but for the bound number
-abbrev pub fact_names : FactTree → List Occurrence
-fact_names (plain f) = form_names f
-fact_names (all x lo hi f) = term_names lo ++ (term_names hi ++ filter (λ o. not (is_number x o)) (form_names f))
+abbrev pub fact_names : Fact → List Occurrence
+fact_names (fact.Plain f) = form_names f
+fact_names (fact.All x lo hi f) = term_names lo ++ (term_names hi ++ filter (λ o. not (is_number x o)) (form_names f))
 
 -- whether the number that the fact binds is among the names
-abbrev pub captures : FactTree → List Occurrence → Bool
-captures (plain f) names = false
-captures (all x lo hi f) names = list_any (is_number x) names
+abbrev pub captures : Fact → List Occurrence → Bool
+captures (fact.Plain f) names = false
+captures (fact.All x lo hi f) names = list_any (is_number x) names
 
 -- a list with the name at its end, if it doesn't have it yet
 abbrev pub with_name : List Sym → Sym → List Sym

@@ -1,8 +1,10 @@
 -- Names replaced in formulas, all at once.
 use Rattle.std.specs.Prelude.{◌≡◌, false, [], ◌∷◌, if◌then◌else◌}
 use Rattle.terms.specs.declared.sym.Sym.{Sym}
+use Rattle.terms.specs.declared.fact.Fact.{Fact}
+use Rattle.terms.specs.declared.fact.Fact.TheVariants as fact
 use Rattle.terms.specs.Symbols.{same_sym}
-use Rattle.terms.specs.Trees.{TermTree, number, name, plus, minus, times, divided, remainder, read, truth, ArrayTree, array, stored, FormTree, always, never, at_most, equal, denied, both, either, FactTree, plain, all}
+use Rattle.terms.specs.Trees.{TermTree, number, name, plus, minus, times, divided, remainder, read, truth, ArrayTree, array, stored, FormTree, always, never, at_most, equal, denied, both, either}
 use Rattle.terms.specs.Names.{as_number, term_names, array_names, captures}
 use Rattle.terms.specs.Truth.{Interpretation, term_at, array_at}
 
@@ -47,15 +49,15 @@ abbrev mutual
 abbrev pub below : Sym → Change → Change
 below x c = record c { number = λ y. if same_sym x y then name y else c.number y }
 
-abbrev pub replaced_fact : Change → FactTree → FactTree
-replaced_fact c (plain f) = plain (replaced_form c f)
-replaced_fact c (all x lo hi f) = all x (replaced_term c lo) (replaced_term c hi) (replaced_form (below x c) f)
+abbrev pub replaced_fact : Change → Fact → Fact
+replaced_fact c (fact.Plain f) = fact.Plain (replaced_form c f)
+replaced_fact c (fact.All x lo hi f) = fact.All x (replaced_term c lo) (replaced_term c hi) (replaced_form (below x c) f)
 
 -- the interpretation that gives each name what stands in for it
 abbrev pub changed : Change → Interpretation → Interpretation
 changed c v = record { value = λ x. term_at v (c.number x); element = λ x. array_at v (c.array x) }
 
 -- nothing that the change puts in has the number that the fact binds
-pub record Avoids (c : Change) (f : FactTree) : Type 0 where
+pub record Avoids (c : Change) (f : Fact) : Type 0 where
   pub numbers : (x : Sym) → captures f (as_number x ∷ []) ≡ false → captures f (term_names (c.number x)) ≡ false
   pub arrays : (x : Sym) → captures f (array_names (c.array x)) ≡ false

@@ -3,9 +3,11 @@
 use Rattle.std.specs.Prelude.{ℤ, pos, ◌+ℤ◌, ◌-ℤ◌, ◌*ℤ◌, ◌≤ℤ◌, ◌<ℤ◌, Bool, true, false, not, ◌&&◌, ◌||◌, int_le, int_div, if◌then◌else◌, IsTrue, ◌≡◌}
 use Rattle.std.specs.Ordering.{int_eq}
 use Rattle.terms.specs.declared.sym.Sym.{Sym}
+use Rattle.terms.specs.declared.fact.Fact.{Fact}
+use Rattle.terms.specs.declared.fact.Fact.TheVariants as fact
 use Rattle.terms.specs.Symbols.{same_sym}
 use Rattle.terms.specs.Names.{Occurrence, as_number, as_array}
-use Rattle.terms.specs.Trees.{TermTree, number, name, plus, minus, times, divided, remainder, read, truth, ArrayTree, array, stored, FormTree, always, never, at_most, equal, denied, both, either, FactTree, plain, all}
+use Rattle.terms.specs.Trees.{TermTree, number, name, plus, minus, times, divided, remainder, read, truth, ArrayTree, array, stored, FormTree, always, never, at_most, equal, denied, both, either}
 
 -- what each name stands for: a number, and an array as its value at each index
 pub record Interpretation : Type 0 where
@@ -54,9 +56,9 @@ abbrev mutual
   form_at v (both f g) = form_at v f && form_at v g
   form_at v (either f g) = form_at v f || form_at v g
 
-abbrev pub FactAt : Interpretation → FactTree → Type 0
-FactAt v (plain f) = IsTrue (form_at v f)
-FactAt v (all x lo hi f) = (n : ℤ) → term_at v lo ≤ℤ n → n <ℤ term_at v hi → IsTrue (form_at (with_value v x n) f)
+abbrev pub FactAt : Interpretation → Fact → Type 0
+FactAt v (fact.Plain f) = IsTrue (form_at v f)
+FactAt v (fact.All x lo hi f) = (n : ℤ) → term_at v lo ≤ℤ n → n <ℤ term_at v hi → IsTrue (form_at (with_value v x n) f)
 
 -- two interpretations give a name the same number, or the same array
 abbrev pub AgreesAt : Interpretation → Interpretation → Occurrence → Type 0

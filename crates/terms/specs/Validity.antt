@@ -5,7 +5,6 @@ use Rattle.terms.specs.declared.sym.Sym.{Sym}
 use Rattle.terms.specs.declared.sequent.Sort.{Sort}
 use Rattle.terms.specs.declared.sequent.Sort.TheVariants as sort
 use Rattle.terms.specs.declared.sequent.Sequent.{Sequent}
-use Rattle.terms.specs.Trees.{fact_tree}
 use Rattle.terms.specs.Truth.{Interpretation, FactAt}
 
 -- an array has `int` elements at every index, whatever its length
@@ -19,7 +18,7 @@ InRange v sorts = All (λ entry. HasSort v entry.0 entry.1) sorts
 
 -- where the hypotheses are true, so is the goal
 abbrev pub SequentAt : Interpretation → Sequent → Type 0
-SequentAt v s = All (λ f. FactAt v (fact_tree f)) s.hyps → FactAt v (fact_tree s.goal)
+SequentAt v s = All (FactAt v) s.hyps → FactAt v s.goal
 
 pub record Valid (s : Sequent) : Type 0 where
   pub follows : (v : Interpretation) → InRange v s.sorts → SequentAt v s

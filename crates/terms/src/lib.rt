@@ -2,22 +2,23 @@
 //! where a name is replaced.
 #![tactic(auto)]
 
+mod build;
 mod copy;
-mod evaluate;
 pub mod fact;
 pub mod form;
-pub mod laws;
-mod names;
-mod replace;
+pub mod node;
+pub mod part;
+mod same;
 pub mod sequent;
 pub mod sym;
 pub mod valuation;
+pub mod view;
 
-pub use evaluate::holds_at;
 pub use fact::Fact;
 pub use form::{ArrayTerm, Form, Term};
-pub use names::free;
-pub use replace::{subst, subst_fact, subst_fact_row, subst_row};
+pub use node::{Node, NodeKind};
+pub use part::{ArrayRef, FormRef, TermRef};
 pub use sequent::{Label, Sequent, Sort, What};
 pub use sym::Sym;
 pub use valuation::Valuation;
+pub use view::{ArrayView, FormView, TermView};
