@@ -6,11 +6,11 @@ use Rattle.std.proofs.Math.IntN.{zero-*ℤ}
 use Rattle.linear_rows.proofs.Ring.{dist}
 use Rattle.terms.specs.Trees.{TermTree}
 use Rattle.terms.specs.Truth.{Interpretation, term_at}
-use Rattle.terms.proofs.Choices.{by_bool}
-use Rattle.cert_checker.specs.Sameness.{same_term}
+use Rattle.cert_checker.proofs.Choices.{by_bool}
+use Rattle.terms.specs.Equality.{same_term}
 use Rattle.cert_checker.specs.Linear.{Multiple, atoms, coefficient, coefficients}
 use Rattle.cert_checker.specs.Worth.{worth}
-use Rattle.cert_checker.proofs.SameLaws.{same_term-equal, same_term-refl}
+use Rattle.terms.specs.Code.EqualityLaws.{same_term-equal, same_term-refl}
 
 -- the terms with their coefficients in a list
 abbrev with_coefficients : List TermTree → List Multiple → List Multiple

@@ -7,14 +7,15 @@ use Rattle.std.proofs.lemmas.Option.{option_and_then_some, get_or_from_slice_get
 use Rattle.std.proofs.Math.IntN.{zero-*ℤ}
 use Rattle.linear_rows.specs.Numbers.{is_zero}
 use Rattle.linear_rows.proofs.Ring.{mul-le}
-use Rattle.terms.specs.Trees.{FormTree, FactTree}
-use Rattle.terms.specs.Trees as fact
+use Rattle.terms.specs.declared.fact.Fact.{Fact}
+use Rattle.terms.specs.Trees.{FormTree}
+use Rattle.terms.specs.declared.fact.Fact.TheVariants as fact
 use Rattle.terms.specs.Truth.{Interpretation, term_at, form_at, FactAt}
 use Rattle.cert_checker.specs.Linear.{Multiple, scaled_multiples, coefficients}
 use Rattle.cert_checker.specs.Rows.{Line, row_of, form_of, plain_at, row_at, nothing, plus_multiple, may_be_added, line_is_small, checked_plus, added, combination, is_constant, is_false}
 use Rattle.terms.specs.Valuations.{is_small}
 use Rattle.cert_checker.specs.Worth.{worth, LineAt}
-use Rattle.cert_checker.proofs.SameLaws.{and_left, and_right}
+use Rattle.cert_checker.proofs.Choices.{and_left, and_right}
 use Rattle.cert_checker.proofs.WorthLaws.{worth-append, worth-scaled}
 use Rattle.cert_checker.proofs.CoefficientLaws.{worth-coefficients}
 use Rattle.cert_checker.proofs.LineLaws.{row_of-says}
@@ -24,15 +25,15 @@ use Rattle.cert_checker.proofs.LineLaws.{row_of-says}
 pub all_at : {X : Type 0} (P : X → Type 0) (xs : List X) (i : ℕ) (x : X) → All P xs → slice_get xs i ≡ Some x → P x
 all_at P xs i x all e = subst P (get_or_from_slice_get xs i x x e) (all i x (slice_get_within xs i x e))
 
-form-true : (v : Interpretation) (f : FactTree) (g : FormTree) → form_of f ≡ Some g → FactAt v f → IsTrue (form_at v g)
-form-true v (fact.plain f) g e h = subst (λ k. IsTrue (form_at v k)) (same_Some f g e) h
-form-true v (fact.all x lo hi f) g e h = absurd cc
+form-true : (v : Interpretation) (f : Fact) (g : FormTree) → form_of f ≡ Some g → FactAt v f → IsTrue (form_at v g)
+form-true v (fact.Plain f) g e h = subst (λ k. IsTrue (form_at v k)) (same_Some f g e) h
+form-true v (fact.All x lo hi f) g e h = absurd cc
 
-pub plain-true : (v : Interpretation) (facts : List FactTree) (i : ℕ) (f : FormTree) → All (FactAt v) facts → plain_at facts i ≡ Some f → IsTrue (form_at v f)
+pub plain-true : (v : Interpretation) (facts : List Fact) (i : ℕ) (f : FormTree) → All (FactAt v) facts → plain_at facts i ≡ Some f → IsTrue (form_at v f)
 plain-true v facts i f all e = option_and_then_some form_of (slice_get facts i) f e
     (λ there is plain. form-true v there f plain (all_at (FactAt v) facts i there all is))
 
-row-true : (v : Interpretation) (facts : List FactTree) (i : ℕ) (row : Line) → All (FactAt v) facts → row_at facts i ≡ Some row → LineAt v row
+row-true : (v : Interpretation) (facts : List Fact) (i : ℕ) (row : Line) → All (FactAt v) facts → row_at facts i ≡ Some row → LineAt v row
 row-true v facts i row all e = option_and_then_some row_of (plain_at facts i) row e
     (λ f is has. (row_of-says v f row has).0 (plain-true v facts i f all is))
 
@@ -77,7 +78,7 @@ checked-at v sum m row made e one two = go (may_be_added sum m row) refl e
         (plus_multiple-at v sum m row (and_left (row.is_equality || int_le (pos 0) m) (is_small m && line_is_small (plus_multiple sum m row)) is) one two)
     go false is e = absurd cc
 
-pub added-at : (v : Interpretation) (facts : List FactTree) → All (FactAt v) facts → (pairs : List (ℕ × ℤ)) (sum line : Line) → added facts pairs sum ≡ Some line → LineAt v sum → LineAt v line
+pub added-at : (v : Interpretation) (facts : List Fact) → All (FactAt v) facts → (pairs : List (ℕ × ℤ)) (sum line : Line) → added facts pairs sum ≡ Some line → LineAt v sum → LineAt v line
 added-at v facts all [] sum line e h = subst (LineAt v) (same_Some sum line e) h
 added-at v facts all (p ∷ ps) sum line e h = option_and_then_some (added facts ps) (option_and_then (checked_plus sum p.1) (row_at facts p.0)) line e
     (λ next made rest. option_and_then_some (checked_plus sum p.1) (row_at facts p.0) next made
@@ -87,7 +88,7 @@ nothing-at : (v : Interpretation) → LineAt v nothing
 nothing-at v = record { below = same-le (pos 0) (pos 0) refl; tight = λ e. refl }
 
 -- A combination of rows of true facts is true.
-pub combination-at : (v : Interpretation) (facts : List FactTree) (pairs : List (ℕ × ℤ)) (line : Line) → All (FactAt v) facts → combination facts pairs ≡ Some line → LineAt v line
+pub combination-at : (v : Interpretation) (facts : List Fact) (pairs : List (ℕ × ℤ)) (line : Line) → All (FactAt v) facts → combination facts pairs ≡ Some line → LineAt v line
 combination-at v facts pairs line all e = added-at v facts all pairs nothing line e (nothing-at v)
 
 -- ---- rows that are false

@@ -1,4 +1,4 @@
-pub mod SameLaws
+pub mod Choices
 pub mod WorthLaws
 pub mod CoefficientLaws
 pub mod LineLaws

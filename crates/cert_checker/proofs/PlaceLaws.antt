@@ -7,10 +7,10 @@ use Rattle.std.proofs.lemmas.List.Elements.{All-nil, All-cons, All-head, All-tai
 use Rattle.std.proofs.lemmas.Option.{same_Some}
 use Rattle.terms.specs.Trees.{TermTree, number, name, plus, minus, times, divided, remainder, read, truth, ArrayTree, array, stored, FormTree, always, never, at_most, equal, denied, both, either}
 use Rattle.terms.specs.Truth.{Interpretation, quotient_of, remainder_of, number_of, term_at, array_at, form_at}
-use Rattle.terms.proofs.Choices.{by_bool}
-use Rattle.cert_checker.specs.Sameness.{same_term}
+use Rattle.cert_checker.proofs.Choices.{by_bool}
+use Rattle.terms.specs.Equality.{same_term}
 use Rattle.cert_checker.specs.Places.{Place, within, itself_and, places_in_term, places_in_array, places_in_form, truth_at, truths_in, exchanged_term, exchanged_array, exchanged_form, unless_same}
-use Rattle.cert_checker.proofs.SameLaws.{same_term-equal}
+use Rattle.terms.specs.Code.EqualityLaws.{same_term-equal}
 
 -- a term worth the same may stand at the place
 abbrev KeepsWorth : {Whole V : Type 0} → Interpretation → (Whole → V) → Whole → Place Whole → Type 0

@@ -9,7 +9,7 @@ use Rattle.std.proofs.Math.IntN.{*ℤ_comm, pos-*ℤ-pos, pos-*ℤ-negsuc}
 use Rattle.std.proofs.Math.Nat.{mul-suc}
 use Rattle.linear_rows.specs.Numbers.{is_zero}
 use Rattle.terms.specs.Truth.{quotient_of, remainder_of}
-use Rattle.terms.proofs.Choices.{by_bool}
+use Rattle.cert_checker.proofs.Choices.{by_bool}
 
 -- ---- rounded down
 

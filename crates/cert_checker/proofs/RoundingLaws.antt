@@ -9,12 +9,12 @@ use Rattle.linear_rows.proofs.Ring.{dist-left, assoc, round-down}
 use Rattle.terms.specs.Trees.{TermTree, number, plus, times, FormTree, at_most}
 use Rattle.terms.specs.Truth.{Interpretation, term_at, form_at}
 use Rattle.terms.specs.Valuations.{is_small}
-use Rattle.terms.proofs.Choices.{by_bool}
+use Rattle.cert_checker.proofs.Choices.{by_bool}
 use Rattle.cert_checker.specs.Linear.{Multiple, coefficients}
 use Rattle.cert_checker.specs.Rows.{Line}
 use Rattle.cert_checker.specs.Rules.{divides, may_round, divided_term, joined, rounded}
 use Rattle.cert_checker.specs.Worth.{worth, LineAt}
-use Rattle.cert_checker.proofs.SameLaws.{and_left, and_right}
+use Rattle.cert_checker.proofs.Choices.{and_left, and_right}
 use Rattle.cert_checker.proofs.CoefficientLaws.{worth-coefficients}
 use Rattle.cert_checker.proofs.CombinationLaws.{zero-is}
 use Rattle.cert_checker.proofs.QuotientLaws.{rounded-down}

@@ -13,21 +13,23 @@ use Rattle.terms.specs.declared.sequent.Sort.{Sort}
 use Rattle.terms.specs.declared.sequent.Sort.TheVariants as sort
 use Rattle.terms.specs.Symbols.{same_sym}
 use Rattle.terms.specs.Names.{terms_in_form}
-use Rattle.terms.specs.Trees.{TermTree, number, name, plus, minus, times, divided, remainder, read, truth, FormTree, always, never, at_most, equal, denied, both, either, FactTree}
-use Rattle.terms.specs.Trees as fact
+use Rattle.terms.specs.declared.fact.Fact.{Fact}
+use Rattle.terms.specs.Trees.{TermTree, number, name, plus, minus, times, divided, remainder, read, truth, FormTree, always, never, at_most, equal, denied, both, either}
+use Rattle.terms.specs.declared.fact.Fact.TheVariants as fact
 use Rattle.terms.specs.Truth.{Interpretation, quotient_of, remainder_of, number_of, term_at, form_at, FactAt}
 use Rattle.terms.specs.Validity.{HasSort, InRange}
 use Rattle.terms.specs.Valuations.{is_small}
-use Rattle.terms.proofs.Choices.{by_bool}
-use Rattle.terms.proofs.SymbolLaws.{same_sym-equal}
-use Rattle.cert_checker.specs.Sameness.{same_form}
+use Rattle.cert_checker.proofs.Choices.{by_bool}
+use Rattle.terms.specs.Code.SymbolLaws.{same_sym-equal}
+use Rattle.terms.specs.Equality.{same_form}
 use Rattle.cert_checker.specs.Rows.{Line, plain_at, combination, is_false}
 use Rattle.cert_checker.specs.Places.{truths_in, by_number, division_of, exchanged_form}
 use Rattle.cert_checker.specs.Rules.{Children, one_child, two_children, on_plain, is_contradiction, are_opposite, is_once, closes_as_written, closes_by_sum, close, both_parts, one, each_case, cut, may_round, rounded, round, bounds_of, bounds_in, within_bounds, range_of_name, exchange, true_or_false, split_truth, division, divide_by, divide, forms_of, children}
-use Rattle.cert_checker.specs.Stub.{Rule}
-use Rattle.cert_checker.specs.Stub as rule
+use Rattle.cert_form.specs.declared.cert.Rule.{Rule}
+use Rattle.cert_form.specs.declared.cert.Rule.TheVariants as rule
 use Rattle.cert_checker.specs.Fails.{Fails}
-use Rattle.cert_checker.proofs.SameLaws.{and_left, and_right, and_true, same_form-equal}
+use Rattle.cert_checker.proofs.Choices.{and_left, and_right, and_true}
+use Rattle.terms.specs.Code.EqualityLaws.{same_form-equal}
 use Rattle.cert_checker.proofs.CombinationLaws.{plain-true, combination-at, false-nowhere}
 use Rattle.cert_checker.proofs.QuotientLaws.{divided-parts, has_remainder}
 use Rattle.cert_checker.proofs.RoundingLaws.{rounded-true}
@@ -51,7 +53,7 @@ then-true : {X : Type 0} (v : Interpretation) (give : X → Children) (o : Optio
 then-true v give None h = tt
 then-true v give (Some x) h = h x refl
 
-on_plain-true : (v : Interpretation) (facts : List FactTree) (i : ℕ) (apply : FormTree → Children) → All (FactAt v) facts
+on_plain-true : (v : Interpretation) (facts : List Fact) (i : ℕ) (apply : FormTree → Children) → All (FactAt v) facts
     → ((f : FormTree) → IsTrue (form_at v f) → HasTrueChild v (apply f)) → HasTrueChild v (on_plain facts i apply)
 on_plain-true v facts i apply all h = then-true v apply (plain_at facts i) (λ f is. h f (plain-true v facts i f all is))
 
@@ -76,7 +78,7 @@ opposite-false v (Some f) (Some (denied g)) h first second = false-true (form_at
     (subst (λ k. not (form_at v k) ≡ true) (sym (same_form-equal f g h)) (second (denied g) refl))
 opposite-false v o p h first second = absurd cc
 
-written-false : (v : Interpretation) (facts : List FactTree) (pairs : List (ℕ × ℤ)) → All (FactAt v) facts → closes_as_written facts pairs ≡ true → ⊥
+written-false : (v : Interpretation) (facts : List Fact) (pairs : List (ℕ × ℤ)) → All (FactAt v) facts → closes_as_written facts pairs ≡ true → ⊥
 written-false v facts [] all h = absurd cc
 written-false v facts (p ∷ []) all h = contradiction-false v (plain_at facts p.0) (and_right (is_once p) (is_contradiction (plain_at facts p.0)) h)
     (λ f is. plain-true v facts p.0 f all is)
@@ -85,7 +87,7 @@ written-false v facts (p ∷ q ∷ []) all h = opposite-false v (plain_at facts 
     (λ f is. plain-true v facts p.0 f all is) (λ f is. plain-true v facts q.0 f all is)
 written-false v facts (p ∷ q ∷ r ∷ rest) all h = absurd cc
 
-sum-false : (v : Interpretation) (facts : List FactTree) (pairs : List (ℕ × ℤ)) → All (FactAt v) facts → closes_by_sum (combination facts pairs) ≡ true → ⊥
+sum-false : (v : Interpretation) (facts : List Fact) (pairs : List (ℕ × ℤ)) → All (FactAt v) facts → closes_by_sum (combination facts pairs) ≡ true → ⊥
 sum-false v facts pairs all h = go (combination facts pairs) refl h
   where
     go : (o : Option Line) → combination facts pairs ≡ o → closes_by_sum o ≡ true → ⊥
@@ -96,7 +98,7 @@ either-one : (a b : Bool) → (a || b) ≡ true → (a ≡ true) ⊎ (b ≡ true
 either-one true b h = inl refl
 either-one false b h = inr h
 
-close-true : (v : Interpretation) (facts : List FactTree) (pairs : List (ℕ × ℤ)) → All (FactAt v) facts → HasTrueChild v (close facts pairs)
+close-true : (v : Interpretation) (facts : List Fact) (pairs : List (ℕ × ℤ)) → All (FactAt v) facts → HasTrueChild v (close facts pairs)
 close-true v facts pairs all = if-true v (closes_by_sum (combination facts pairs) || closes_as_written facts pairs) []
     (λ h. elim (either-one (closes_by_sum (combination facts pairs)) (closes_as_written facts pairs) h) [
       | inl e ↦ sum-false v facts pairs all e
@@ -163,7 +165,7 @@ cut-true v f = by_bool (form_at v f) (λ e. inl (e, tt)) (λ e. inr (inl (ap not
 
 -- ---- Round
 
-round-true : (v : Interpretation) (facts : List FactTree) (pairs : List (ℕ × ℤ)) (d : ℤ) → All (FactAt v) facts → HasTrueChild v (option_and_then (round d) (combination facts pairs))
+round-true : (v : Interpretation) (facts : List Fact) (pairs : List (ℕ × ℤ)) (d : ℤ) → All (FactAt v) facts → HasTrueChild v (option_and_then (round d) (combination facts pairs))
 round-true v facts pairs d all = then-true v (round d) (combination facts pairs)
     (λ line is. if-true v (may_round d line) ((rounded d line ∷ []) ∷ []) (λ may. inl (rounded-true v d line may (combination-at v facts pairs line all is), tt)))
 
@@ -200,7 +202,7 @@ exchange-true : (v : Interpretation) (e f : FormTree) → IsTrue (form_at v e) �
 exchange-true v (equal a b) f h k = inl (exchanged_form-at v a b ((Decides-int_eq (term_at v a) (term_at v b)).0 h) f ∙ k, tt)
 exchange-true v e f h k = tt
 
-same-true : (v : Interpretation) (facts : List FactTree) (i j : ℕ) → All (FactAt v) facts → HasTrueChild v (on_plain facts i (λ e. on_plain facts j (exchange e)))
+same-true : (v : Interpretation) (facts : List Fact) (i j : ℕ) → All (FactAt v) facts → HasTrueChild v (on_plain facts i (λ e. on_plain facts j (exchange e)))
 same-true v facts i j all = on_plain-true v facts i (λ e. on_plain facts j (exchange e)) all (λ e h. on_plain-true v facts j (exchange e) all (λ f k. exchange-true v e f h k))
 
 -- ---- Truth
@@ -262,7 +264,7 @@ divide-true v k f = then-true v divide_by (slice_get (filter_map division_of (te
 
 -- ---- every rule
 
-pub rule-true : (v : Interpretation) (sorts : List (Sym × Sort)) (facts : List FactTree) → InRange v sorts → All (FactAt v) facts → (r : Rule) → HasTrueChild v (forms_of sorts facts r)
+pub rule-true : (v : Interpretation) (sorts : List (Sym × Sort)) (facts : List Fact) → InRange v sorts → All (FactAt v) facts → (r : Rule) → HasTrueChild v (forms_of sorts facts r)
 rule-true v sorts facts in_range all (rule.Close pairs) = close-true v facts pairs all
 rule-true v sorts facts in_range all (rule.Both i) = on_plain-true v facts i both_parts all (both_parts-true v)
 rule-true v sorts facts in_range all (rule.Case i) = on_plain-true v facts i each_case all (each_case-true v)
@@ -278,22 +280,22 @@ rule-true v sorts facts in_range all (rule.Divide i k) = on_plain-true v facts i
 
 -- ---- where all children fail, so does the branch
 
-are-facts : (v : Interpretation) (forms : List FormTree) → AreTrue v forms → All (FactAt v) (map fact.plain forms)
+are-facts : (v : Interpretation) (forms : List FormTree) → AreTrue v forms → All (FactAt v) (map fact.Plain forms)
 are-facts v [] h = All-nil (FactAt v)
-are-facts v (f ∷ fs) h = All-cons (FactAt v) (fact.plain f) (map fact.plain fs) h.0 (are-facts v fs h.1)
+are-facts v (f ∷ fs) h = All-cons (FactAt v) (fact.Plain f) (map fact.Plain fs) h.0 (are-facts v fs h.1)
 
-one-holds : (v : Interpretation) (facts : List FactTree) (made : List (List FormTree)) → All (FactAt v) facts → OneIsTrue v made
-    → All (λ added. Fails v (facts ++ added)) (map (map fact.plain) made) → ⊥
+one-holds : (v : Interpretation) (facts : List Fact) (made : List (List FormTree)) → All (FactAt v) facts → OneIsTrue v made
+    → All (λ added. Fails v (facts ++ added)) (map (map fact.Plain) made) → ⊥
 one-holds v facts [] all h fail = h
-one-holds v facts (forms ∷ rest) all (inl here) fail = All-head (λ added. Fails v (facts ++ added)) (map fact.plain forms) (map (map fact.plain) rest) fail
-    (All-append (FactAt v) facts (map fact.plain forms) all (are-facts v forms here))
-one-holds v facts (forms ∷ rest) all (inr later) fail = one-holds v facts rest all later (All-tail (λ added. Fails v (facts ++ added)) (map fact.plain forms) (map (map fact.plain) rest) fail)
+one-holds v facts (forms ∷ rest) all (inl here) fail = All-head (λ added. Fails v (facts ++ added)) (map fact.Plain forms) (map (map fact.Plain) rest) fail
+    (All-append (FactAt v) facts (map fact.Plain forms) all (are-facts v forms here))
+one-holds v facts (forms ∷ rest) all (inr later) fail = one-holds v facts rest all later (All-tail (λ added. Fails v (facts ++ added)) (map fact.Plain forms) (map (map fact.Plain) rest) fail)
 
 -- A branch fails where all its children do.
-pub rule-sound : (v : Interpretation) (sorts : List (Sym × Sort)) (facts : List FactTree) (r : Rule) (made : List (List FactTree)) → InRange v sorts → children sorts facts r ≡ Some made
+pub rule-sound : (v : Interpretation) (sorts : List (Sym × Sort)) (facts : List Fact) (r : Rule) (made : List (List Fact)) → InRange v sorts → children sorts facts r ≡ Some made
     → All (λ added. Fails v (facts ++ added)) made → Fails v facts
 rule-sound v sorts facts r made in_range e fail all = go (forms_of sorts facts r) (rule-true v sorts facts in_range all r) e
   where
-    go : (o : Children) → HasTrueChild v o → option_map (map (map fact.plain)) o ≡ Some made → ⊥
+    go : (o : Children) → HasTrueChild v o → option_map (map (map fact.Plain)) o ≡ Some made → ⊥
     go None h e = absurd cc
-    go (Some forms) h e = one-holds v facts forms all h (subst (All (λ added. Fails v (facts ++ added))) (sym (same_Some (map (map fact.plain) forms) made e)) fail)
+    go (Some forms) h e = one-holds v facts forms all h (subst (All (λ added. Fails v (facts ++ added))) (sym (same_Some (map (map fact.Plain) forms) made e)) fail)

@@ -1,5 +1,3 @@
-pub mod Stub
-pub mod Sameness
 pub mod Linear
 pub mod Rows
 pub mod Worth

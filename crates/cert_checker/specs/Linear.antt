@@ -4,7 +4,7 @@ use Rattle.std.specs.Prelude.{ℤ, pos, negsuc, ◌+ℤ◌, ◌*ℤ◌, Bool, tr
 use Rattle.std.specs.List.{list_all}
 use Rattle.terms.specs.Trees.{TermTree, number, name, plus, minus, times, divided, remainder, read, truth}
 use Rattle.terms.specs.Valuations.{is_small}
-use Rattle.cert_checker.specs.Sameness.{same_term}
+use Rattle.terms.specs.Equality.{same_term}
 
 -- a multiple of an atom
 abbrev pub Multiple : Type 0

@@ -2,7 +2,7 @@
 use Rattle.std.specs.Prelude.{ℤ, pos, Bool, if◌then◌else◌, List, [], ◌∷◌, ◌++◌, map, Option, Some, None, filter_map}
 use Rattle.linear_rows.specs.Numbers.{is_zero}
 use Rattle.terms.specs.Trees.{TermTree, number, name, plus, minus, times, divided, remainder, read, truth, ArrayTree, array, stored, FormTree, always, never, at_most, equal, denied, both, either}
-use Rattle.cert_checker.specs.Sameness.{same_term}
+use Rattle.terms.specs.Equality.{same_term}
 
 -- a term that stands in a whole, and the whole with another term in its place
 abbrev pub Place : Type 0 → Type 0

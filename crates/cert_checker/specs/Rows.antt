@@ -2,8 +2,9 @@
 use Rattle.std.specs.Prelude.{ℕ, ℤ, pos, negsuc, ◌+ℤ◌, ◌*ℤ◌, neg_ℤ, Bool, true, false, not, ◌&&◌, ◌||◌, if◌then◌else◌, int_le, int_lt, List, [], ◌∷◌, ◌++◌, Option, Some, None, option_and_then, slice_get}
 use Rattle.std.specs.List.{list_all}
 use Rattle.linear_rows.specs.Numbers.{is_zero}
-use Rattle.terms.specs.Trees.{TermTree, number, name, plus, minus, times, divided, remainder, read, truth, FormTree, always, never, at_most, equal, denied, both, either, FactTree}
-use Rattle.terms.specs.Trees as fact
+use Rattle.terms.specs.declared.fact.Fact.{Fact}
+use Rattle.terms.specs.Trees.{TermTree, number, name, plus, minus, times, divided, remainder, read, truth, FormTree, always, never, at_most, equal, denied, both, either}
+use Rattle.terms.specs.declared.fact.Fact.TheVariants as fact
 use Rattle.terms.specs.Valuations.{is_small}
 use Rattle.cert_checker.specs.Linear.{Multiple, Sum, scaled_multiples, scaled_sum, number_sum, total, difference, sum_of, sum_is_small, linear_terms, coefficients, are_small}
 
@@ -46,15 +47,15 @@ row_of f = option_and_then (λ line. if has_small_numbers f line then Some line 
 
 -- ---- facts by their numbers
 
-abbrev pub form_of : FactTree → Option FormTree
-form_of (fact.plain f) = Some f
-form_of (fact.all x lo hi f) = None
+abbrev pub form_of : Fact → Option FormTree
+form_of (fact.Plain f) = Some f
+form_of (fact.All x lo hi f) = None
 
 -- the form of the fact with the number, where that is plain
-abbrev pub plain_at : List FactTree → ℕ → Option FormTree
+abbrev pub plain_at : List Fact → ℕ → Option FormTree
 plain_at facts i = option_and_then form_of (slice_get facts i)
 
-abbrev pub row_at : List FactTree → ℕ → Option Line
+abbrev pub row_at : List Fact → ℕ → Option Line
 row_at facts i = option_and_then row_of (plain_at facts i)
 
 -- ---- combinations
@@ -77,11 +78,11 @@ abbrev pub checked_plus : Line → ℤ → Line → Option Line
 checked_plus sum m row = if may_be_added sum m row then Some (plus_multiple sum m row) else None
 
 -- the rows of the facts with their multipliers, added to a sum in the order written
-abbrev pub added : List FactTree → List (ℕ × ℤ) → Line → Option Line
+abbrev pub added : List Fact → List (ℕ × ℤ) → Line → Option Line
 added facts [] sum = Some sum
 added facts (p ∷ ps) sum = option_and_then (added facts ps) (option_and_then (checked_plus sum p.1) (row_at facts p.0))
 
-abbrev pub combination : List FactTree → List (ℕ × ℤ) → Option Line
+abbrev pub combination : List Fact → List (ℕ × ℤ) → Option Line
 combination facts pairs = added facts pairs nothing
 
 -- all coefficients are 0

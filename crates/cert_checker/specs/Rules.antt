@@ -9,15 +9,16 @@ use Rattle.terms.specs.declared.sequent.Sort.{Sort}
 use Rattle.terms.specs.declared.sequent.Sort.TheVariants as sort
 use Rattle.terms.specs.Symbols.{same_sym}
 use Rattle.terms.specs.Names.{terms_in_form}
-use Rattle.terms.specs.Trees.{TermTree, number, name, plus, times, divided, remainder, truth, FormTree, always, never, at_most, equal, denied, both, either, FactTree}
-use Rattle.terms.specs.Trees as fact
+use Rattle.terms.specs.declared.fact.Fact.{Fact}
+use Rattle.terms.specs.Trees.{TermTree, number, name, plus, times, divided, remainder, truth, FormTree, always, never, at_most, equal, denied, both, either}
+use Rattle.terms.specs.declared.fact.Fact.TheVariants as fact
 use Rattle.terms.specs.Valuations.{is_small}
-use Rattle.cert_checker.specs.Sameness.{same_form}
+use Rattle.terms.specs.Equality.{same_form}
 use Rattle.cert_checker.specs.Linear.{Multiple, coefficients}
 use Rattle.cert_checker.specs.Rows.{Line, plain_at, combination, is_false}
 use Rattle.cert_checker.specs.Places.{truths_in, division_of, exchanged_form}
-use Rattle.cert_checker.specs.Stub.{Rule}
-use Rattle.cert_checker.specs.Stub as rule
+use Rattle.cert_form.specs.declared.cert.Rule.{Rule}
+use Rattle.cert_form.specs.declared.cert.Rule.TheVariants as rule
 
 -- What a rule gives where it applies: the forms that each child adds, as plain facts.
 abbrev pub Children : Type 0
@@ -30,7 +31,7 @@ abbrev pub two_children : List FormTree → List FormTree → Children
 two_children forms others = Some (forms ∷ others ∷ [])
 
 -- what a rule on one fact gives, where that fact is plain
-abbrev pub on_plain : List FactTree → ℕ → (FormTree → Children) → Children
+abbrev pub on_plain : List Fact → ℕ → (FormTree → Children) → Children
 on_plain facts i apply = option_and_then apply (plain_at facts i)
 
 -- ---- Close
@@ -50,7 +51,7 @@ abbrev pub is_once : ℕ × ℤ → Bool
 is_once p = int_eq p.1 (pos 1)
 
 -- one fact that is false by itself, or a fact and the same denied
-abbrev pub closes_as_written : List FactTree → List (ℕ × ℤ) → Bool
+abbrev pub closes_as_written : List Fact → List (ℕ × ℤ) → Bool
 closes_as_written facts (p ∷ []) = is_once p && is_contradiction (plain_at facts p.0)
 closes_as_written facts (p ∷ q ∷ []) = (is_once p && is_once q) && are_opposite (plain_at facts p.0) (plain_at facts q.0)
 closes_as_written facts pairs = false
@@ -59,7 +60,7 @@ abbrev pub closes_by_sum : Option Line → Bool
 closes_by_sum (Some line) = is_false line
 closes_by_sum None = false
 
-abbrev pub close : List FactTree → List (ℕ × ℤ) → Children
+abbrev pub close : List Fact → List (ℕ × ℤ) → Children
 close facts pairs = if closes_by_sum (combination facts pairs) || closes_as_written facts pairs then Some [] else None
 
 -- ---- Both, Case, Cut
@@ -163,7 +164,7 @@ divide k f = option_and_then divide_by (slice_get (filter_map division_of (terms
 -- ---- every rule
 
 -- What a rule adds to the facts: a list for each child, or `None` where it doesn't apply.
-abbrev pub forms_of : List (Sym × Sort) → List FactTree → Rule → Children
+abbrev pub forms_of : List (Sym × Sort) → List Fact → Rule → Children
 forms_of sorts facts (rule.Close pairs) = close facts pairs
 forms_of sorts facts (rule.Both i) = on_plain facts i both_parts
 forms_of sorts facts (rule.Case i) = on_plain facts i each_case
@@ -177,5 +178,5 @@ forms_of sorts facts (rule.Inst i t) = None
 forms_of sorts facts (rule.Truth i k) = on_plain facts i (split_truth k)
 forms_of sorts facts (rule.Divide i k) = on_plain facts i (divide k)
 
-abbrev pub children : List (Sym × Sort) → List FactTree → Rule → Option (List (List FactTree))
-children sorts facts r = option_map (map (map fact.plain)) (forms_of sorts facts r)
+abbrev pub children : List (Sym × Sort) → List Fact → Rule → Option (List (List Fact))
+children sorts facts r = option_map (map (map fact.Plain)) (forms_of sorts facts r)

@@ -1,0 +1,6 @@
+//! Certificates.
+#![tactic(auto)]
+
+pub mod cert;
+
+pub use cert::{Cert, Rule};
