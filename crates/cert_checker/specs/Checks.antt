@@ -11,6 +11,7 @@ use Rattle.cert_checker.specs.Rules.{one, children}
 use Rattle.cert_checker.specs.Occurrences.{occurs_in_sequent}
 use Rattle.terms.specs.declared.sequent.Sequent.{Sequent}
 use Rattle.cert_form.specs.declared.cert.Rule.{Rule}
+use Rattle.cert_form.specs.declared.cert.Cert.{Cert}
 
 -- the name for a number at which the goal is false
 abbrev pub fresh : Sym
@@ -38,6 +39,11 @@ checks sorts [] (facts ∷ waiting) = false
 checks sorts (rule ∷ rules) [] = false
 checks sorts (rule ∷ rules) (facts ∷ waiting) = goes_on (checks sorts rules) facts waiting (children sorts facts rule)
 
+-- lists of rules put together
+abbrev pub one_after_another : List (List Rule) → List Rule
+one_after_another [] = []
+one_after_another (rules ∷ rest) = rules ++ one_after_another rest
+
 -- a denied `All` takes a name that occurs nowhere else
 abbrev pub has_fresh_name : Sequent → Fact → Bool
 has_fresh_name s (fact.Plain f) = true
@@ -46,5 +52,5 @@ has_fresh_name s (fact.All x lo hi f) = not (occurs_in_sequent fresh s)
 abbrev pub checks_sequent : Sequent → List Rule → Bool
 checks_sequent s rules = has_fresh_name s s.goal && checks s.sorts rules (opening s ∷ [])
 
-pub record Checks (s : Sequent) (rules : List Rule) : Type 0 where
-  pub is_checked : checks_sequent s rules ≡ true
+pub record Checks (s : Sequent) (cert : Cert) : Type 0 where
+  pub is_checked : checks_sequent s cert.rules ≡ true
