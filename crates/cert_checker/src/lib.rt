@@ -1,8 +1,6 @@
-//! Checking certificates.
+//! Certificates of sequents: which rules apply, what they add, and whether a certificate checks.
 #![tactic(auto)]
 
-/// A place in a list.
-#[derive(Clone, Copy, Debug)]
-struct Place {
-    at: u32,
-}
+mod laws;
+
+pub use laws::{checked_is_valid, row_is_true, rule_is_sound, rules_follow};
