@@ -6,7 +6,7 @@ use Rattle.linear_rows.proofs.Ring.{dist, dist-left, assoc, times-one}
 use Rattle.terms.specs.Trees.{TermTree, number, name, plus, minus, times, divided, remainder, read, truth}
 use Rattle.terms.specs.Truth.{Interpretation, term_at}
 use Rattle.cert_checker.specs.Linear.{Multiple, Sum, scaled_multiples, number_sum, atom_sum, scaled_sum, total, difference, product, sum_of}
-use Rattle.cert_checker.specs.Worth.{worth, sum_at}
+use Rattle.cert_checker.specs.Worth.{weighed, worth, sum_at}
 
 zero-sum : (b : ℤ) → b ≡ pos 0 +ℤ b
 zero-sum b = omega (arith, ints)
@@ -14,13 +14,19 @@ zero-sum b = omega (arith, ints)
 left_first : (p q r : ℤ) → p +ℤ (q +ℤ r) ≡ (p +ℤ q) +ℤ r
 left_first p q r = omega (arith, ints)
 
+pub weighed-append : (f : TermTree → ℤ) (xs ys : List Multiple) → weighed f (xs ++ ys) ≡ weighed f xs +ℤ weighed f ys
+weighed-append f [] ys = zero-sum (weighed f ys)
+weighed-append f (x ∷ xs) ys = ap (λ z. x.1 *ℤ f x.0 +ℤ z) (weighed-append f xs ys) ∙ left_first (x.1 *ℤ f x.0) (weighed f xs) (weighed f ys)
+
+pub weighed-scaled : (f : TermTree → ℤ) (c : ℤ) (ms : List Multiple) → weighed f (scaled_multiples c ms) ≡ c *ℤ weighed f ms
+weighed-scaled f c [] = sym (*ℤ_comm c (pos 0) ∙ zero-*ℤ c)
+weighed-scaled f c (m ∷ ms) = ap₂ (λ y z. y +ℤ z) (assoc c m.1 (f m.0)) (weighed-scaled f c ms) ∙ sym (dist-left c (m.1 *ℤ f m.0) (weighed f ms))
+
 pub worth-append : (v : Interpretation) (xs ys : List Multiple) → worth v (xs ++ ys) ≡ worth v xs +ℤ worth v ys
-worth-append v [] ys = zero-sum (worth v ys)
-worth-append v (x ∷ xs) ys = ap (λ z. x.1 *ℤ term_at v x.0 +ℤ z) (worth-append v xs ys) ∙ left_first (x.1 *ℤ term_at v x.0) (worth v xs) (worth v ys)
+worth-append v = weighed-append (term_at v)
 
 pub worth-scaled : (v : Interpretation) (c : ℤ) (ms : List Multiple) → worth v (scaled_multiples c ms) ≡ c *ℤ worth v ms
-worth-scaled v c [] = sym (*ℤ_comm c (pos 0) ∙ zero-*ℤ c)
-worth-scaled v c (m ∷ ms) = ap₂ (λ y z. y +ℤ z) (assoc c m.1 (term_at v m.0)) (worth-scaled v c ms) ∙ sym (dist-left c (m.1 *ℤ term_at v m.0) (worth v ms))
+worth-scaled v = weighed-scaled (term_at v)
 
 by_fours : (p q r s : ℤ) → (p +ℤ q) +ℤ (r +ℤ s) ≡ (p +ℤ r) +ℤ (q +ℤ s)
 by_fours p q r s = omega (arith, ints)
@@ -35,7 +41,7 @@ sum_at-scaled v c s = ap (λ z. z +ℤ c *ℤ s.constant) (worth-scaled v c s.mu
 zero-left : (z y : ℤ) → y ≡ pos 0 → z +ℤ y ≡ z
 zero-left z y e = omega (arith, ints)
 
-one-times : (z : ℤ) → pos 1 *ℤ z ≡ z
+pub one-times : (z : ℤ) → pos 1 *ℤ z ≡ z
 one-times z = *ℤ_comm (pos 1) z ∙ times-one z
 
 pub sum_at-atom : (v : Interpretation) (t : TermTree) → term_at v t ≡ sum_at v (atom_sum t)
