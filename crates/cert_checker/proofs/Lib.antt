@@ -10,3 +10,4 @@ pub mod RuleLaws
 pub mod NameLaws
 pub mod ReplacingLaws
 pub mod CheckLaws
+pub mod NumberingLaws

@@ -4,5 +4,7 @@ pub mod Worth
 pub mod Places
 pub mod Rules
 pub mod Occurrences
+pub mod Numbering
 pub mod Fails
 pub mod Checks
+pub mod Code
