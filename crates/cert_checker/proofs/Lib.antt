@@ -11,3 +11,4 @@ pub mod NameLaws
 pub mod ReplacingLaws
 pub mod CheckLaws
 pub mod NumberingLaws
+pub mod SizeLaws
