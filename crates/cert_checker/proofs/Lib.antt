@@ -12,3 +12,4 @@ pub mod ReplacingLaws
 pub mod CheckLaws
 pub mod NumberingLaws
 pub mod SizeLaws
+pub mod PlaceInAtoms

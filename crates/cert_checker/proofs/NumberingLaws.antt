@@ -29,10 +29,10 @@ use Rattle.cert_checker.proofs.WorthLaws.{weighed-append, weighed-scaled, one-ti
 abbrev is_it : TermTree → TermTree → Bool
 is_it t u = same_term u t
 
-number-first : (u : TermTree) (us : List TermTree) (t : TermTree) → same_term u t ≡ true → atom_number (u ∷ us) t ≡ 0
+pub number-first : (u : TermTree) (us : List TermTree) (t : TermTree) → same_term u t ≡ true → atom_number (u ∷ us) t ≡ 0
 number-first u us t e = ap (λ b. cond (not b) (1 + atom_number us t) 0) e
 
-number-later : (u : TermTree) (us : List TermTree) (t : TermTree) → same_term u t ≡ false → atom_number (u ∷ us) t ≡ 1 + atom_number us t
+pub number-later : (u : TermTree) (us : List TermTree) (t : TermTree) → same_term u t ≡ false → atom_number (u ∷ us) t ≡ 1 + atom_number us t
 number-later u us t e = ap (λ b. cond (not b) (1 + atom_number us t) 0) e
 
 or-other : (a b : Bool) → (a || b) ≡ true → a ≡ false → b ≡ true

@@ -1,6 +1,7 @@
 //! Certificates of sequents: which rules apply, what they add, and whether a certificate checks.
 #![tactic(auto)]
 
+mod atoms;
 mod laws;
 
 pub use laws::{checked_is_valid, row_is_true, rule_is_sound, rules_follow};
