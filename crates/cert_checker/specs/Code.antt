@@ -1,2 +1,3 @@
 -- Definitions that mirror the code.
 pub mod SumRows
+pub mod Steps

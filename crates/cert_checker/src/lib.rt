@@ -3,5 +3,7 @@
 
 mod atoms;
 mod laws;
+mod step;
+mod sum;
 
 pub use laws::{checked_is_valid, row_is_true, rule_is_sound, rules_follow};

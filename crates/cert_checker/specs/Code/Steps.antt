@@ -1,0 +1,128 @@
+-- How the row of a sum is made: steps that are left to do, and rows that are done, the next and the last one first.
+use Rattle.std.specs.Prelude.{◌≡◌, ℕ, ◌+◌, ◌*◌, ◌≤◌, ℤ, pos, negsuc, ◌-ℤ◌, Bool, true, false, ◌&&◌, List, [], ◌∷◌, ◌++◌, reverse, Option, Some, None, Result, Ok, Err, ⊤}
+use Rattle.std.specs.List.{list_all, AllZip}
+use Rattle.linear_rows.specs.declared.row.Row.{Row}
+use Rattle.linear_rows.specs.declared.row.RowFail.{RowFail}
+use Rattle.linear_rows.specs.declared.row.RowFail.TheVariants.{NoMemory, Wide}
+use Rattle.linear_rows.specs.Sums.{row_fits, plus_times}
+use Rattle.terms.specs.Nodes.{term_size}
+use Rattle.terms.specs.Trees.{TermTree, number, name, plus, minus, times, divided, remainder, read, truth}
+use Rattle.cert_checker.specs.declared.step.Step.{Step}
+use Rattle.cert_checker.specs.declared.step.Step.TheVariants as step
+use Rattle.cert_checker.specs.declared.step.Operation.{Operation}
+use Rattle.cert_checker.specs.declared.step.Operation.TheVariants as operation
+use Rattle.cert_checker.specs.Linear.{Sum, number_sum, scaled_sum, total, difference, sum_of, linear_terms, sum_is_small}
+use Rattle.cert_checker.specs.Numbering.{atom_number, with_atoms}
+use Rattle.cert_checker.specs.Code.SumRows.{IsSumRow}
+
+abbrev pub number_row : ℤ → Row
+number_row z = record { parts = []; bound = z; equal = true }
+
+abbrev pub atom_row : ℕ → Row
+atom_row n = record { parts = (n, pos 1) ∷ []; bound = pos 0; equal = true }
+
+-- u - t + 1 in the order of t and u
+abbrev pub turned : Sum → Sum → Sum
+turned s r = total (scaled_sum (negsuc 0) s) (total r (number_sum (pos 1)))
+
+abbrev pub less_one : Row → Row
+less_one row = record row { bound = row.bound -ℤ pos 1 }
+
+-- the number that a term is as written
+abbrev pub literal_of : TermTree → Option ℤ
+literal_of (number z) = Some z
+literal_of t = None
+
+-- how many rows an operation takes
+abbrev pub operands : Operation → ℕ
+operands (operation.Scale z) = 1
+operands o = 2
+
+abbrev pub sums_behind : Operation → List Sum → List Sum
+sums_behind operation.Add (r ∷ s ∷ ss) = total s r ∷ ss
+sums_behind operation.Subtract (r ∷ s ∷ ss) = difference s r ∷ ss
+sums_behind operation.Turn (r ∷ s ∷ ss) = turned s r ∷ ss
+sums_behind (operation.Scale z) (s ∷ ss) = scaled_sum z s ∷ ss
+sums_behind o ss = []
+
+abbrev pub rows_behind : Operation → List Row → List Row
+rows_behind operation.Add (r ∷ l ∷ rows) = plus_times l (pos 1) r ∷ rows
+rows_behind operation.Subtract (r ∷ l ∷ rows) = plus_times l (negsuc 0) r ∷ rows
+rows_behind operation.Turn (r ∷ l ∷ rows) = plus_times r (negsuc 0) (less_one l) ∷ rows
+rows_behind (operation.Scale z) (r ∷ rows) = plus_times (number_row (pos 0)) z r ∷ rows
+rows_behind o rows = []
+
+abbrev pub first_fits : List Row → Bool
+first_fits [] = true
+first_fits (row ∷ rows) = row_fits row
+
+abbrev pub first_small : List Sum → Bool
+first_small [] = true
+first_small (s ∷ ss) = sum_is_small s
+
+-- the sum that the steps make of sums, where every operation has its operands and one sum is left
+unfoldable pub sum_after : List Step → List Sum → Option Sum
+sum_after [] [] = None
+sum_after [] (s ∷ []) = Some s
+sum_after [] (s ∷ r ∷ ss) = None
+sum_after (step.Term t ∷ steps) ss = sum_after steps (sum_of t ∷ ss)
+sum_after (step.Apply (operation.Scale z) ∷ steps) [] = None
+sum_after (step.Apply (operation.Scale z) ∷ steps) (s ∷ ss) = sum_after steps (scaled_sum z s ∷ ss)
+sum_after (step.Apply o ∷ steps) [] = None
+sum_after (step.Apply o ∷ steps) (s ∷ []) = None
+sum_after (step.Apply o ∷ steps) (r ∷ s ∷ ss) = sum_after steps (sums_behind o (r ∷ s ∷ ss))
+
+-- whether all sums on the way are small
+unfoldable pub are_small_after : List Step → List Sum → Bool
+are_small_after [] ss = true
+are_small_after (step.Term t ∷ steps) ss = list_all (λ u. sum_is_small (sum_of u)) (linear_terms t) && are_small_after steps (sum_of t ∷ ss)
+are_small_after (step.Apply o ∷ steps) ss = first_small (sums_behind o ss) && are_small_after steps (sums_behind o ss)
+
+unfoldable pub atoms_after : List Step → List TermTree → List TermTree
+atoms_after [] atoms = atoms
+atoms_after (step.Term t ∷ steps) atoms = atoms_after steps (with_atoms atoms (sum_of t).multiples)
+atoms_after (step.Apply o ∷ steps) atoms = atoms_after steps atoms
+
+-- how much is left to do
+unfoldable pub work : List Step → ℕ
+work [] = 0
+work (step.Term t ∷ steps) = 2 * term_size t + work steps
+work (step.Apply o ∷ steps) = 1 + work steps
+
+-- what the steps come to: the sum, whether all sums on the way are small, and the atoms
+pub record Goal : Type 0 where
+  pub sum : Sum
+  pub small : Bool
+  pub atoms : List TermTree
+
+-- these steps, rows and atoms come to the goal
+pub record ComesTo (goal : Goal) (steps : List Step) (rows : List Row) (atoms : List TermTree) : Type 0 where
+  pub sums : List Sum
+  pub stand : AllZip (IsSumRow atoms) sums rows
+  pub fit : list_all row_fits rows ≡ true
+  pub sum : sum_after steps sums ≡ Some goal.sum
+  pub small : are_small_after steps sums ≡ goal.small
+  pub numbered : atoms_after steps atoms ≡ goal.atoms
+
+-- what stands behind a step: the rest comes to the same, or the goal isn't small
+abbrev pub GoesOn : Goal → Result (Unit {0}) RowFail → List Step → List Row → List TermTree → Type 0
+GoesOn goal (Ok u) steps rows atoms = ComesTo goal steps rows atoms
+GoesOn goal (Err Wide) steps rows atoms = goal.small ≡ false
+GoesOn goal (Err NoMemory) steps rows atoms = ⊤
+
+-- what a row answers that was to be added
+abbrev pub IsPushed : Row → List Row → Result (Unit {0}) RowFail → List Row → Type 0
+IsPushed row old (Ok u) new = (new ≡ old ++ (row ∷ [])) × (row_fits row ≡ true)
+IsPushed row old (Err Wide) new = row_fits row ≡ false
+IsPushed row old (Err NoMemory) new = ⊤
+
+-- what an operation answers
+abbrev pub IsApplied : List Row → Result (Unit {0}) RowFail → List Row → Type 0
+IsApplied made (Ok u) new = (reverse new ≡ made) × (first_fits made ≡ true)
+IsApplied made (Err Wide) new = first_fits made ≡ false
+IsApplied made (Err NoMemory) new = ⊤
+
+-- a list that has grown at its end
+pub record Grown {X : Type 0} (old new : List X) : Type 0 where
+  pub more : List X
+  pub is : new ≡ old ++ more
