@@ -13,3 +13,4 @@ pub mod CheckLaws
 pub mod NumberingLaws
 pub mod SizeLaws
 pub mod PlaceInAtoms
+pub mod StepLaws

@@ -1,7 +1,7 @@
 ghost use Rattle.std.specs.Prelude.{◌≡◌, ◌≤◌, true, length, reverse, ◌∷◌, ◌++◌, [], OnOk, IfErr};
 ghost use Rattle.std.specs.List.{list_all};
 ghost use Rattle.linear_rows.specs.Sums.{row_fits, plus_times};
-ghost use Rattle.cert_checker.specs.Code.Steps.{number_row, atom_row, literal_of, operands, rows_behind, IsPushed, IsApplied};
+ghost use Rattle.cert_checker.specs.Code.Steps.{number_row, atom_row, literal_of, operands, rows_behind, sum_behind, turn_behind, scale_behind, less_one, IsPushed, IsApplied};
 
 use crate::step::{Operation, Step};
 use linear_rows::{Row, RowFail, add_times};
@@ -63,5 +63,87 @@ fn push_sum(
         Ok(sum) => push_row(rows, sum),
         Err(RowFail::Wide) => Err(RowFail::Wide),
         Err(RowFail::NoMemory) => Err(RowFail::NoMemory),
+    }
+}
+
+/// The last two rows, the last one second.
+fn pop_two(rows: &mut Vec<Row>) -> (Row, Row)
+    requires { 2 ≤ length rows.old.items }
+    ensures { reverse rows.old.items ≡ result.1 ∷ (result.0 ∷ reverse rows.new.items) }
+{
+    let Some(last) = rows.pop() else {
+        unreachable!()
+    };
+    let Some(first) = rows.pop() else {
+        unreachable!()
+    };
+    (first, last)
+}
+
+fn pop_one(rows: &mut Vec<Row>) -> Row
+    requires { 1 ≤ length rows.old.items }
+    ensures { reverse rows.old.items ≡ result ∷ reverse rows.new.items }
+{
+    let Some(last) = rows.pop() else {
+        unreachable!()
+    };
+    last
+}
+
+/// The last two rows added, the last one so many times.
+fn add(alloc: Global, rows: &mut Vec<Row>, times: i128) -> Result<(), RowFail>
+    requires two { 2 ≤ length rows.old.items }
+    requires fit { list_all row_fits rows.old.items ≡ true }
+    ensures { IsApplied (sum_behind times (reverse rows.old.items)) result rows.new.items }
+{
+    let (first, last) = pop_two(rows);
+    push_sum(alloc, rows, &first, &last, times)
+}
+
+fn less_one(row: Row) -> Row
+    requires { row_fits row ≡ true }
+    ensures { result ≡ less_one row }
+{
+    Row {
+        parts: row.parts,
+        bound: row.bound - 1,
+        equal: row.equal,
+    }
+}
+
+/// The last row less the one before it, and 1.
+fn turn(alloc: Global, rows: &mut Vec<Row>) -> Result<(), RowFail>
+    requires two { 2 ≤ length rows.old.items }
+    requires fit { list_all row_fits rows.old.items ≡ true }
+    ensures { IsApplied (turn_behind (reverse rows.old.items)) result rows.new.items }
+{
+    let (first, last) = pop_two(rows);
+    let first = less_one(first);
+    push_sum(alloc, rows, &last, &first, -1)
+}
+
+/// The last row so many times.
+fn scale(alloc: Global, rows: &mut Vec<Row>, times: i128) -> Result<(), RowFail>
+    requires one { 1 ≤ length rows.old.items }
+    ensures { IsApplied (scale_behind times (reverse rows.old.items)) result rows.new.items }
+{
+    let row = pop_one(rows);
+    push_sum(alloc, rows, &number_row(alloc, 0), &row, times)
+}
+
+pub(crate) fn apply(
+    alloc: Global,
+    rows: &mut Vec<Row>,
+    operation: Operation,
+) -> Result<(), RowFail>
+    requires operands { operands operation ≤ length rows.old.items }
+    requires fit { list_all row_fits rows.old.items ≡ true }
+    ensures { IsApplied (rows_behind operation (reverse rows.old.items)) result rows.new.items }
+{
+    match operation {
+        Operation::Add => add(alloc, rows, 1),
+        Operation::Subtract => add(alloc, rows, -1),
+        Operation::Turn => turn(alloc, rows),
+        Operation::Scale(times) => scale(alloc, rows, times),
     }
 }

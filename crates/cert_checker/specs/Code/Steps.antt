@@ -45,12 +45,24 @@ sums_behind operation.Turn (r ∷ s ∷ ss) = turned s r ∷ ss
 sums_behind (operation.Scale z) (s ∷ ss) = scaled_sum z s ∷ ss
 sums_behind o ss = []
 
+-- the last rows put together, the last one first
+abbrev pub sum_behind : ℤ → List Row → List Row
+sum_behind c (r ∷ l ∷ rows) = plus_times l c r ∷ rows
+sum_behind c rows = []
+
+abbrev pub turn_behind : List Row → List Row
+turn_behind (r ∷ l ∷ rows) = plus_times r (negsuc 0) (less_one l) ∷ rows
+turn_behind rows = []
+
+abbrev pub scale_behind : ℤ → List Row → List Row
+scale_behind z (r ∷ rows) = plus_times (number_row (pos 0)) z r ∷ rows
+scale_behind z [] = []
+
 abbrev pub rows_behind : Operation → List Row → List Row
-rows_behind operation.Add (r ∷ l ∷ rows) = plus_times l (pos 1) r ∷ rows
-rows_behind operation.Subtract (r ∷ l ∷ rows) = plus_times l (negsuc 0) r ∷ rows
-rows_behind operation.Turn (r ∷ l ∷ rows) = plus_times r (negsuc 0) (less_one l) ∷ rows
-rows_behind (operation.Scale z) (r ∷ rows) = plus_times (number_row (pos 0)) z r ∷ rows
-rows_behind o rows = []
+rows_behind operation.Add rows = sum_behind (pos 1) rows
+rows_behind operation.Subtract rows = sum_behind (negsuc 0) rows
+rows_behind operation.Turn rows = turn_behind rows
+rows_behind (operation.Scale z) rows = scale_behind z rows
 
 abbrev pub first_fits : List Row → Bool
 first_fits [] = true
