@@ -3,6 +3,7 @@
 
 mod atoms;
 mod laws;
+mod open;
 mod step;
 mod sum;
 

@@ -10,7 +10,7 @@ use std::alloc::Global;
 use terms::{TermRef, TermView};
 
 /// The number that the term is as written.
-fn literal(term: &TermRef<'_>) -> Option<i128>
+pub(crate) fn literal(term: &TermRef<'_>) -> Option<i128>
     ensures { result ≡ literal_of term.now }
 {
     match term.view() {
@@ -26,7 +26,7 @@ fn literal(term: &TermRef<'_>) -> Option<i128>
     }
 }
 
-fn number_row(alloc: Global, number: i128) -> Row
+pub(crate) fn number_row(alloc: Global, number: i128) -> Row
     ensures { result ≡ number_row number }
 {
     Row {
@@ -37,7 +37,7 @@ fn number_row(alloc: Global, number: i128) -> Row
 }
 
 /// Adds a row to the rows that are done, if it is within sizes.
-fn push_row(rows: &mut Vec<Row>, row: Row) -> Result<(), RowFail>
+pub(crate) fn push_row(rows: &mut Vec<Row>, row: Row) -> Result<(), RowFail>
     ensures { IsPushed row rows.old.items result rows.new.items }
 {
     if !row.fits() {

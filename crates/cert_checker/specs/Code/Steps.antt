@@ -12,7 +12,7 @@ use Rattle.cert_checker.specs.declared.step.Step.TheVariants as step
 use Rattle.cert_checker.specs.declared.step.Operation.{Operation}
 use Rattle.cert_checker.specs.declared.step.Operation.TheVariants as operation
 use Rattle.cert_checker.specs.Linear.{Sum, number_sum, scaled_sum, total, difference, sum_of, linear_terms, sum_is_small}
-use Rattle.cert_checker.specs.Numbering.{atom_number, with_atoms}
+use Rattle.cert_checker.specs.Numbering.{atom_number, with_atom, with_atoms}
 use Rattle.cert_checker.specs.Code.SumRows.{IsSumRow}
 
 abbrev pub number_row : ℤ → Row
@@ -138,3 +138,63 @@ IsApplied made (Err NoMemory) new = ⊤
 pub record Grown {X : Type 0} (old new : List X) : Type 0 where
   pub more : List X
   pub is : new ≡ old ++ more
+
+-- ---- a term as a step
+
+-- how the row of a term is made of those of its parts
+pub data Shape : Type 0 where
+  a_number : ℤ → Shape
+  a_total : TermTree → TermTree → Shape
+  a_difference : TermTree → TermTree → Shape
+  a_multiple : ℤ → TermTree → Shape
+  an_atom : Shape
+
+abbrev pub product_shape : Option ℤ → Option ℤ → TermTree → TermTree → Shape
+product_shape (Some z) o t u = a_multiple z u
+product_shape None (Some z) t u = a_multiple z t
+product_shape None None t u = an_atom
+
+abbrev pub shape_of : TermTree → Shape
+shape_of (number z) = a_number z
+shape_of (plus t u) = a_total t u
+shape_of (minus t u) = a_difference t u
+shape_of (times t u) = product_shape (literal_of t) (literal_of u) t u
+shape_of t = an_atom
+
+abbrev pub opened_steps : Shape → List Step → List Step
+opened_steps (a_total t u) steps = step.Term t ∷ (step.Term u ∷ (step.Apply operation.Add ∷ steps))
+opened_steps (a_difference t u) steps = step.Term t ∷ (step.Term u ∷ (step.Apply operation.Subtract ∷ steps))
+opened_steps (a_multiple z t) steps = step.Term t ∷ (step.Apply (operation.Scale z) ∷ steps)
+opened_steps s steps = steps
+
+abbrev pub opened_rows : Shape → TermTree → List TermTree → List Row → List Row
+opened_rows (a_number z) t atoms rows = number_row z ∷ rows
+opened_rows an_atom t atoms rows = atom_row (atom_number (with_atom atoms t) t) ∷ rows
+opened_rows s t atoms rows = rows
+
+abbrev pub opened_atoms : Shape → TermTree → List TermTree → List TermTree
+opened_atoms an_atom t atoms = with_atom atoms t
+opened_atoms s t atoms = atoms
+
+abbrev pub opened_fits : Shape → Bool
+opened_fits (a_number z) = row_fits (number_row z)
+opened_fits (a_multiple z t) = row_fits (number_row z)
+opened_fits s = true
+
+-- what opening a term answers, where the rows and steps stand the last one first
+pub record IsOpen (s : Shape) (t : TermTree) (steps more : List Step) (rows done : List Row) (atoms numbered : List TermTree) : Type 0 where
+  pub steps_are : more ≡ opened_steps s steps
+  pub rows_are : done ≡ opened_rows s t atoms rows
+  pub atoms_are : numbered ≡ opened_atoms s t atoms
+  pub fits : opened_fits s ≡ true
+
+abbrev pub IsOpened : Shape → TermTree → List Step → List Row → List TermTree → Result (Unit {0}) RowFail → List Step → List Row → List TermTree → Type 0
+IsOpened s t steps rows atoms (Ok u) more done numbered = IsOpen s t steps more rows done atoms numbered
+IsOpened s t steps rows atoms (Err Wide) more done numbered = opened_fits s ≡ false
+IsOpened s t steps rows atoms (Err NoMemory) more done numbered = ⊤
+
+-- steps that are pushed where a test holds
+abbrev pub IsScaled : Bool → Result (Unit {0}) RowFail → List Step → List Step → Type 0
+IsScaled small (Ok u) made new = (new ≡ made) × (small ≡ true)
+IsScaled small (Err Wide) made new = small ≡ false
+IsScaled small (Err NoMemory) made new = ⊤
