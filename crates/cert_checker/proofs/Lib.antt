@@ -14,3 +14,4 @@ pub mod NumberingLaws
 pub mod SizeLaws
 pub mod PlaceInAtoms
 pub mod StepLaws
+pub mod GoalLaws

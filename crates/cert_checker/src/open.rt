@@ -130,3 +130,30 @@ fn open_multiple<'a>(
     }
     push_scaled(steps, term, times)
 }
+
+/// The row of a term, or the steps that make it.
+fn open<'a>(
+    alloc: Global,
+    term: TermRef<'a>,
+    steps: &mut Vec<Step<'a>>,
+    rows: &mut Vec<Row>,
+    atoms: &mut Vec<Term>,
+) -> Result<(), RowFail>
+    ensures { IsOpened (shape_of term.entry) term.entry
+        (reverse steps.old.items) (reverse rows.old.items) atoms.old.items result
+        (reverse steps.new.items) (reverse rows.new.items) atoms.new.items }
+{
+    match term.view() {
+        TermView::Num(number) => push_row(rows, number_row(alloc, number)),
+        TermView::Of(_) => push_atom(alloc, rows, atoms, &term),
+        TermView::Add(left, right) => push_operands(steps, left, right, Operation::Add),
+        TermView::Sub(left, right) => push_operands(steps, left, right, Operation::Subtract),
+        TermView::Mul(left, right) => {
+            open_product(alloc, &term, left, right, steps, rows, atoms)
+        }
+        TermView::Div(_, _) => push_atom(alloc, rows, atoms, &term),
+        TermView::Rem(_, _) => push_atom(alloc, rows, atoms, &term),
+        TermView::Read(_, _) => push_atom(alloc, rows, atoms, &term),
+        TermView::Truth(_) => push_atom(alloc, rows, atoms, &term),
+    }
+}
