@@ -96,3 +96,127 @@ by-shape (divided t u) = record { sum = refl; small = one-only (sum_is_small (at
 by-shape (remainder t u) = record { sum = refl; small = one-only (sum_is_small (atom_sum (remainder t u))) }
 by-shape (read a i) = record { sum = refl; small = one-only (sum_is_small (atom_sum (read a i))) }
 by-shape (truth f) = record { sum = refl; small = one-only (sum_is_small (atom_sum (truth f))) }
+
+-- ---- more atoms
+
+pub has-with : (us : List TermTree) (t : TermTree) → has_atom (with_atom us t) t ≡ true
+has-with us t = go (has_atom us t) refl
+  where
+    go : (b : Bool) → has_atom us t ≡ b → has_atom (if b then us else us ++ (t ∷ [])) t ≡ true
+    go true e = e
+    go false e = has-itself us t
+
+row-with : (us : List TermTree) (t : TermTree) (s : Sum) (row : Row) → IsSumRow us s row → IsSumRow (with_atom us t) s row
+row-with us t s row is = go (has_atom us t)
+  where
+    go : (b : Bool) → IsSumRow (if b then us else us ++ (t ∷ [])) s row
+    go true = is
+    go false = row-grown us (t ∷ []) s row is
+
+rows-with : (us : List TermTree) (t : TermTree) (sums : List Sum) (rows : List Row) → AllZip (IsSumRow us) sums rows → AllZip (IsSumRow (with_atom us t)) sums rows
+rows-with us t [] [] h = h
+rows-with us t [] (row ∷ rows) h = absurd h
+rows-with us t (s ∷ sums) [] h = absurd h
+rows-with us t (s ∷ sums) (row ∷ rows) h = (row-with us t s row h.0, rows-with us t sums rows h.1)
+
+-- ---- a term is taken
+
+true-first : (a b c : Bool) → (a && b) ≡ c → a ≡ true → b ≡ c
+true-first true b c h e = h
+true-first false b c h e = absurd (let other : false ≡ true = e in cc)
+
+false-first : (a b c : Bool) → (a && b) ≡ c → a ≡ false → c ≡ false
+false-first true b c h e = absurd (let other : true ≡ false = e in cc)
+false-first false b c h e = sym h
+
+total-order : (a b s r c : Bool) → ((s && (a && b)) && r) ≡ c → (a && (b && (s && r))) ≡ c
+total-order true true s r c h = ap (λ x. x && r) (sym (and-true s)) ∙ h
+total-order true false s r c h = sym (ap (λ x. x && r) (and-turn s false)) ∙ h
+total-order false b s r c h = sym (ap (λ x. x && r) (and-turn s false)) ∙ h
+
+multiple-order : (n a s r c : Bool) → ((s && (n && a)) && r) ≡ c → n ≡ true → (a && (s && r)) ≡ c
+multiple-order true true s r c h e = ap (λ x. x && r) (sym (and-true s)) ∙ h
+multiple-order true false s r c h e = sym (ap (λ x. x && r) (and-turn s false)) ∙ h
+multiple-order false a s r c h e = absurd (let other : false ≡ true = e in cc)
+
+multiple-false : (n a s r c : Bool) → ((s && (n && a)) && r) ≡ c → n ≡ false → c ≡ false
+multiple-false true a s r c h e = absurd (let other : true ≡ false = e in cc)
+multiple-false false a s r c h e = sym (sym (ap (λ x. x && r) (and-turn s false)) ∙ h)
+
+pub number-small : (us : List TermTree) (z : ℤ) → row_fits (number_row z) ≡ sum_is_small (number_sum z)
+number-small us z = row-size us (number_sum z) (number_row z) (number-is us z)
+
+atom-small : (us : List TermTree) (t : TermTree) → sum_is_small (atom_sum t) ≡ true
+atom-small us t = sym (row-size (with_atom us t) (atom_sum t) (atom_row (atom_number (with_atom us t) t)) (atom-is (with_atom us t) t (has-with us t)))
+
+open-comes : (goal : Goal) (t : TermTree) (s : Shape) → ByShape t s → opened_fits s ≡ true → (steps : List Step) (rows : List Row) (atoms : List TermTree)
+    → ComesTo goal (step.Term t ∷ steps) rows atoms → ComesTo goal (opened_steps s steps) (opened_rows s t atoms rows) (opened_atoms s t atoms)
+unfolding sum_after are_small_after atoms_after
+open-comes goal t (a_number z) by fit steps rows atoms c = record {
+  sums = number_sum z ∷ c.sums;
+  stand = (number-is atoms z, c.stand);
+  fit = and_true (row_fits (number_row z)) (list_all row_fits rows) fit c.fit;
+  sum = subst (λ s. sum_after steps (s ∷ c.sums) ≡ Some goal.sum) by.sum c.sum;
+  small = true-first (terms_small t) (are_small_after steps (number_sum z ∷ c.sums)) goal.small (subst (λ s. (terms_small t && are_small_after steps (s ∷ c.sums)) ≡ goal.small) by.sum c.small)
+      (by.small ∙ sym (number-small atoms z) ∙ fit);
+  numbered = ap (atoms_after steps) (sym (with_atoms-none atoms)) ∙ subst (λ s. atoms_after steps (with_atoms atoms s.multiples) ≡ goal.atoms) by.sum c.numbered;
+}
+open-comes goal t (a_total u w) by fit steps rows atoms c = record {
+  sums = c.sums;
+  stand = c.stand;
+  fit = c.fit;
+  sum = subst (λ s. sum_after steps (s ∷ c.sums) ≡ Some goal.sum) by.sum c.sum;
+  small = total-order (terms_small u) (terms_small w) (sum_is_small (total (sum_of u) (sum_of w))) (are_small_after steps (total (sum_of u) (sum_of w) ∷ c.sums)) goal.small
+      (ap (λ b. b && are_small_after steps (total (sum_of u) (sum_of w) ∷ c.sums)) (sym by.small) ∙ subst (λ s. (terms_small t && are_small_after steps (s ∷ c.sums)) ≡ goal.small) by.sum c.small);
+  numbered = ap (atoms_after steps) (sym (with_atoms-append atoms (sum_of u).multiples (sum_of w).multiples))
+      ∙ subst (λ s. atoms_after steps (with_atoms atoms s.multiples) ≡ goal.atoms) by.sum c.numbered;
+}
+open-comes goal t (a_difference u w) by fit steps rows atoms c = record {
+  sums = c.sums;
+  stand = c.stand;
+  fit = c.fit;
+  sum = subst (λ s. sum_after steps (s ∷ c.sums) ≡ Some goal.sum) by.sum c.sum;
+  small = total-order (terms_small u) (terms_small w) (sum_is_small (difference (sum_of u) (sum_of w))) (are_small_after steps (difference (sum_of u) (sum_of w) ∷ c.sums)) goal.small
+      (ap (λ b. b && are_small_after steps (difference (sum_of u) (sum_of w) ∷ c.sums)) (sym by.small) ∙ subst (λ s. (terms_small t && are_small_after steps (s ∷ c.sums)) ≡ goal.small) by.sum c.small);
+  numbered = ap (atoms_after steps) (sym (with_atoms-append atoms (sum_of u).multiples (scaled_multiples (negsuc 0) (sum_of w).multiples) ∙ with_atoms-scaled (with_atoms atoms (sum_of u).multiples) (negsuc 0) (sum_of w).multiples))
+      ∙ subst (λ s. atoms_after steps (with_atoms atoms s.multiples) ≡ goal.atoms) by.sum c.numbered;
+}
+open-comes goal t (a_multiple z u) by fit steps rows atoms c = record {
+  sums = c.sums;
+  stand = c.stand;
+  fit = c.fit;
+  sum = subst (λ s. sum_after steps (s ∷ c.sums) ≡ Some goal.sum) by.sum c.sum;
+  small = multiple-order (sum_is_small (number_sum z)) (terms_small u) (sum_is_small (scaled_sum z (sum_of u))) (are_small_after steps (scaled_sum z (sum_of u) ∷ c.sums)) goal.small
+      (ap (λ b. b && are_small_after steps (scaled_sum z (sum_of u) ∷ c.sums)) (sym by.small) ∙ subst (λ s. (terms_small t && are_small_after steps (s ∷ c.sums)) ≡ goal.small) by.sum c.small)
+      (sym (number-small atoms z) ∙ fit);
+  numbered = ap (atoms_after steps) (sym (with_atoms-scaled atoms z (sum_of u).multiples))
+      ∙ subst (λ s. atoms_after steps (with_atoms atoms s.multiples) ≡ goal.atoms) by.sum c.numbered;
+}
+open-comes goal t an_atom by fit steps rows atoms c = record {
+  sums = atom_sum t ∷ c.sums;
+  stand = (atom-is (with_atom atoms t) t (has-with atoms t), rows-with atoms t c.sums rows c.stand);
+  fit = c.fit;
+  sum = subst (λ s. sum_after steps (s ∷ c.sums) ≡ Some goal.sum) by.sum c.sum;
+  small = true-first (terms_small t) (are_small_after steps (atom_sum t ∷ c.sums)) goal.small (subst (λ s. (terms_small t && are_small_after steps (s ∷ c.sums)) ≡ goal.small) by.sum c.small)
+      (by.small ∙ atom-small atoms t);
+  numbered = ap (atoms_after steps) (sym (with_atoms-one atoms t)) ∙ subst (λ s. atoms_after steps (with_atoms atoms s.multiples) ≡ goal.atoms) by.sum c.numbered;
+}
+
+open-wide : (goal : Goal) (t : TermTree) (s : Shape) → ByShape t s → opened_fits s ≡ false → (steps : List Step) (rows : List Row) (atoms : List TermTree)
+    → ComesTo goal (step.Term t ∷ steps) rows atoms → goal.small ≡ false
+unfolding sum_after are_small_after atoms_after
+open-wide goal t (a_number z) by wide steps rows atoms c = false-first (terms_small t) (are_small_after steps (sum_of t ∷ c.sums)) goal.small c.small (by.small ∙ sym (number-small atoms z) ∙ wide)
+open-wide goal t (a_multiple z u) by wide steps rows atoms c = multiple-false (sum_is_small (number_sum z)) (terms_small u) (sum_is_small (scaled_sum z (sum_of u))) (are_small_after steps (sum_of t ∷ c.sums)) goal.small
+    (ap (λ b. b && are_small_after steps (sum_of t ∷ c.sums)) (sym by.small) ∙ c.small) (sym (number-small atoms z) ∙ wide)
+open-wide goal t (a_total u w) by wide steps rows atoms c = absurd (let other : true ≡ false = wide in cc)
+open-wide goal t (a_difference u w) by wide steps rows atoms c = absurd (let other : true ≡ false = wide in cc)
+open-wide goal t an_atom by wide steps rows atoms c = absurd (let other : true ≡ false = wide in cc)
+
+pub term-taken : (goal : Goal) (t : TermTree) (steps more : List Step) (rows done : List Row) (atoms numbered : List TermTree) (result : Result (Unit {0}) RowFail)
+    → ComesTo goal (step.Term t ∷ steps) rows atoms → IsOpened (shape_of t) t steps rows atoms result more done numbered → GoesOn goal result more done numbered
+term-taken goal t steps more rows done atoms numbered (Ok u) c h =
+    subst (λ l. ComesTo goal l done numbered) (sym h.steps_are) (subst (λ l. ComesTo goal (opened_steps (shape_of t) steps) l numbered) (sym h.rows_are)
+    (subst (λ l. ComesTo goal (opened_steps (shape_of t) steps) (opened_rows (shape_of t) t atoms rows) l) (sym h.atoms_are)
+    (open-comes goal t (shape_of t) (by-shape t) h.fits steps rows atoms c)))
+term-taken goal t steps more rows done atoms numbered (Err Wide) c h = open-wide goal t (shape_of t) (by-shape t) h steps rows atoms c
+term-taken goal t steps more rows done atoms numbered (Err NoMemory) c h = tt
