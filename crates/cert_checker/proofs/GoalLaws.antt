@@ -1,5 +1,5 @@
 -- Steps come to the same where one of them is taken.
-use Rattle.std.proofs.Common.{◌≡◌, ◌∙◌, ℕ, ◌+◌, ◌<◌, ◌≤◌, zero, suc, ℤ, pos, negsuc, ◌+ℤ◌, ◌-ℤ◌, ◌*ℤ◌, Bool, true, false, ◌&&◌, ◌||◌, if◌then◌else◌, List, [], ◌∷◌, ◌++◌, reverse, length, map, Option, Some, None, Result, Ok, Err, ap, ap₂, sym, subst, refl, arith}
+use Rattle.std.proofs.Common.{◌≡◌, ◌∙◌, ℕ, ◌+◌, ◌<◌, ◌≤◌, zero, suc, ℤ, pos, negsuc, neg_ℤ, ◌+ℤ◌, ◌-ℤ◌, ◌*ℤ◌, Bool, true, false, ◌&&◌, ◌||◌, if◌then◌else◌, List, [], ◌∷◌, ◌++◌, reverse, length, map, Option, Some, None, Result, Ok, Err, ap, ap₂, sym, subst, refl, arith}
 use Rattle.std.specs.List.{list_all, list_any, AllZip}
 use Rattle.std.proofs.lemmas.Int.{ints}
 use Rattle.std.proofs.lemmas.List.{append-nil}
@@ -16,11 +16,14 @@ use Rattle.cert_checker.specs.declared.step.Step.TheVariants as step
 use Rattle.cert_checker.specs.declared.step.Operation.{Operation}
 use Rattle.cert_checker.specs.declared.step.Operation.TheVariants as operation
 use Rattle.cert_checker.specs.Linear.{Multiple, Sum, scaled_multiples, number_sum, atom_sum, scaled_sum, total, difference, sum_of, is_number, linear_terms, sum_is_small}
-use Rattle.cert_checker.specs.Numbering.{atom_number, has_atom, with_atom, with_atoms}
-use Rattle.cert_checker.specs.Code.SumRows.{IsSumRow}
+use Rattle.cert_checker.specs.Numbering.{atom_number, has_atom, with_atom, with_atoms, at_point}
+use Rattle.cert_checker.specs.Code.SumRows.{IsSumRow, have_numbers}
 use Rattle.cert_checker.specs.Code.Steps.{number_row, atom_row, turned, less_one, literal_of, operands, sums_behind, rows_behind, sum_behind, turn_behind, scale_behind, first_fits, first_small, sum_after, are_small_after, atoms_after, Goal, ComesTo, GoesOn, IsApplied, Shape, a_number, a_total, a_difference, a_multiple, an_atom, product_shape, shape_of, opened_steps, opened_rows, opened_atoms, opened_fits, IsOpen, IsOpened}
 use Rattle.cert_checker.proofs.Choices.{by_bool, and_left, and_right, and_true}
-use Rattle.cert_checker.proofs.NumberingLaws.{row-grown, has-itself, number-is, atom-is, plus-is, total-is, scaled-is}
+use Rattle.cert_checker.proofs.NumberingLaws.{row-grown, has-itself, number-is, atom-is, plus-is, total-is, scaled-is, numbers-scaled}
+use Rattle.cert_checker.proofs.WorthLaws.{weighed-append, weighed-scaled, minus-one}
+use Rattle.linear_rows.proofs.SumLaws.{dot-sums}
+use Rattle.linear_rows.proofs.FormLaws.{From-sums}
 use Rattle.cert_checker.proofs.SizeLaws.{row-size, small-fits}
 
 -- ---- atoms in order
@@ -220,3 +223,120 @@ term-taken goal t steps more rows done atoms numbered (Ok u) c h =
     (open-comes goal t (shape_of t) (by-shape t) h.fits steps rows atoms c)))
 term-taken goal t steps more rows done atoms numbered (Err Wide) c h = open-wide goal t (shape_of t) (by-shape t) h steps rows atoms c
 term-taken goal t steps more rows done atoms numbered (Err NoMemory) c h = tt
+
+-- ---- an operation is taken
+
+minus-one-sum : (r l c : ℤ) (m : ℤ) → m ≡ neg_ℤ l +ℤ pos 1 → r +ℤ m ≡ neg_ℤ l +ℤ (r +ℤ pos 1)
+minus-one-sum r l c m e = omega (arith, ints)
+
+less-one : (l : ℤ) → neg_ℤ (l -ℤ pos 1) ≡ neg_ℤ l +ℤ pos 1
+less-one l = omega (arith, ints)
+
+swap : (p q : ℤ) → p +ℤ q ≡ q +ℤ (p +ℤ pos 0)
+swap p q = omega (arith, ints)
+
+turned-row : (us : List TermTree) (s r : Sum) (left right : Row) → IsSumRow us s left → IsSumRow us r right → IsSumRow us (turned s r) (plus_times right (negsuc 0) (less_one left))
+turned-row us s r left right one two = record {
+  in_form = From-sums (negsuc 0) right.parts 0 left.parts two.in_form one.in_form;
+  parts = λ point. dot-sums point (negsuc 0) right.parts left.parts ∙ ap₂ (λ y z. y +ℤ negsuc 0 *ℤ z) (two.parts point) (one.parts point)
+      ∙ swap (at_point point us r.multiples) (negsuc 0 *ℤ at_point point us s.multiples)
+      ∙ sym (weighed-append (λ t. point (atom_number us t)) (scaled_multiples (negsuc 0) s.multiples) (r.multiples ++ [])
+      ∙ ap₂ (λ y z. y +ℤ z) (weighed-scaled (λ t. point (atom_number us t)) (negsuc 0) s.multiples) (weighed-append (λ t. point (atom_number us t)) r.multiples []));
+  bound = ap₂ (λ y z. y +ℤ negsuc 0 *ℤ (z -ℤ pos 1)) two.bound one.bound
+      ∙ minus-one-sum r.constant s.constant (pos 0) (negsuc 0 *ℤ (s.constant -ℤ pos 1)) (minus-one (s.constant -ℤ pos 1) ∙ less-one s.constant)
+      ∙ ap (λ z. z +ℤ (r.constant +ℤ pos 1)) (sym (minus-one s.constant));
+  numbered = list_all-append (λ (m : Multiple). has_atom us m.0) (scaled_multiples (negsuc 0) s.multiples) (r.multiples ++ [])
+      ∙ and_true (have_numbers us (scaled_multiples (negsuc 0) s.multiples)) (have_numbers us (r.multiples ++ [])) (numbers-scaled us (negsuc 0) s.multiples one.numbered)
+      (ap (have_numbers us) (append-nil r.multiples) ∙ two.numbered);
+}
+
+-- behind an operation stands the row of its sum
+record IsBehind (o : Operation) (atoms : List TermTree) (sums : List Sum) (rows : List Row) : Type 0 where
+  stand : AllZip (IsSumRow atoms) (sums_behind o sums) (rows_behind o rows)
+  size : first_fits (rows_behind o rows) ≡ first_small (sums_behind o sums)
+  rest : first_fits (rows_behind o rows) ≡ true → list_all row_fits (rows_behind o rows) ≡ true
+  enough : operands o ≤ length rows
+  sum : (steps : List Step) → sum_after (step.Apply o ∷ steps) sums ≡ sum_after steps (sums_behind o sums)
+
+two-there : {X : Type 0} (x y : X) (xs : List X) → 2 ≤ length (x ∷ (y ∷ xs))
+two-there x y xs = omega arith
+
+one-there : {X : Type 0} (x : X) (xs : List X) → 1 ≤ length (x ∷ xs)
+one-there x xs = omega arith
+
+drop-two : (a b c : Bool) → (a && (b && c)) ≡ true → c ≡ true
+drop-two a b c h = and_right b c (and_right a (b && c) h)
+
+behind : (o : Operation) (atoms : List TermTree) (sums : List Sum) (rows : List Row) (steps : List Step) (s : Sum) → AllZip (IsSumRow atoms) sums rows → list_all row_fits rows ≡ true
+    → sum_after (step.Apply o ∷ steps) sums ≡ Some s → IsBehind o atoms sums rows
+unfolding sum_after
+behind operation.Add atoms (r ∷ l ∷ sums) (right ∷ left ∷ rows) steps s h fit e =
+    let row = total-is atoms l r left right h.1.0 h.0 in record {
+      stand = (row, h.1.1);
+      size = row-size atoms (total l r) (plus_times left (pos 1) right) row;
+      rest = λ k. and_true (row_fits (plus_times left (pos 1) right)) (list_all row_fits rows) k (drop-two (row_fits right) (row_fits left) (list_all row_fits rows) fit);
+      enough = two-there right left rows;
+      sum = λ steps. refl;
+    }
+behind operation.Subtract atoms (r ∷ l ∷ sums) (right ∷ left ∷ rows) steps s h fit e =
+    let row = plus-is atoms l r left right (negsuc 0) h.1.0 h.0 in record {
+      stand = (row, h.1.1);
+      size = row-size atoms (difference l r) (plus_times left (negsuc 0) right) row;
+      rest = λ k. and_true (row_fits (plus_times left (negsuc 0) right)) (list_all row_fits rows) k (drop-two (row_fits right) (row_fits left) (list_all row_fits rows) fit);
+      enough = two-there right left rows;
+      sum = λ steps. refl;
+    }
+behind operation.Turn atoms (r ∷ l ∷ sums) (right ∷ left ∷ rows) steps s h fit e =
+    let row = turned-row atoms l r left right h.1.0 h.0 in record {
+      stand = (row, h.1.1);
+      size = row-size atoms (turned l r) (plus_times right (negsuc 0) (less_one left)) row;
+      rest = λ k. and_true (row_fits (plus_times right (negsuc 0) (less_one left))) (list_all row_fits rows) k (drop-two (row_fits right) (row_fits left) (list_all row_fits rows) fit);
+      enough = two-there right left rows;
+      sum = λ steps. refl;
+    }
+behind (operation.Scale z) atoms (s ∷ sums) (row ∷ rows) steps goal h fit e =
+    let made = scaled-is atoms s row z h.0 in record {
+      stand = (made, h.1);
+      size = row-size atoms (scaled_sum z s) (plus_times (number_row (pos 0)) z row) made;
+      rest = λ k. and_true (row_fits (plus_times (number_row (pos 0)) z row)) (list_all row_fits rows) k (and_right (row_fits row) (list_all row_fits rows) fit);
+      enough = one-there row rows;
+      sum = λ steps. refl;
+    }
+behind operation.Add atoms [] rows steps s h fit e = absurd cc
+behind operation.Add atoms (r ∷ []) rows steps s h fit e = absurd cc
+behind operation.Add atoms (r ∷ l ∷ sums) [] steps s h fit e = absurd h
+behind operation.Add atoms (r ∷ l ∷ sums) (row ∷ []) steps s h fit e = absurd h.1
+behind operation.Subtract atoms [] rows steps s h fit e = absurd cc
+behind operation.Subtract atoms (r ∷ []) rows steps s h fit e = absurd cc
+behind operation.Subtract atoms (r ∷ l ∷ sums) [] steps s h fit e = absurd h
+behind operation.Subtract atoms (r ∷ l ∷ sums) (row ∷ []) steps s h fit e = absurd h.1
+behind operation.Turn atoms [] rows steps s h fit e = absurd cc
+behind operation.Turn atoms (r ∷ []) rows steps s h fit e = absurd cc
+behind operation.Turn atoms (r ∷ l ∷ sums) [] steps s h fit e = absurd h
+behind operation.Turn atoms (r ∷ l ∷ sums) (row ∷ []) steps s h fit e = absurd h.1
+behind (operation.Scale z) atoms [] rows steps s h fit e = absurd cc
+behind (operation.Scale z) atoms (r ∷ sums) [] steps s h fit e = absurd h
+
+comes-behind : (goal : Goal) (o : Operation) (steps : List Step) (rows : List Row) (atoms : List TermTree) (c : ComesTo goal (step.Apply o ∷ steps) rows atoms) → IsBehind o atoms c.sums rows
+comes-behind goal o steps rows atoms c = behind o atoms c.sums rows steps goal.sum c.stand c.fit c.sum
+
+pub enough-rows : (goal : Goal) (o : Operation) (steps : List Step) (rows : List Row) (atoms : List TermTree) → ComesTo goal (step.Apply o ∷ steps) rows atoms → operands o ≤ length rows
+enough-rows goal o steps rows atoms c = (comes-behind goal o steps rows atoms c).enough
+
+pub operation-taken : (goal : Goal) (o : Operation) (steps : List Step) (rows new : List Row) (atoms : List TermTree) (result : Result (Unit {0}) RowFail)
+    → ComesTo goal (step.Apply o ∷ steps) rows atoms → IsApplied (rows_behind o rows) result new → GoesOn goal result steps (reverse new) atoms
+unfolding are_small_after atoms_after
+operation-taken goal o steps rows new atoms (Ok u) c h =
+    let b = comes-behind goal o steps rows atoms c in
+    subst (λ l. ComesTo goal steps l atoms) (sym h.0) (record {
+      sums = sums_behind o c.sums;
+      stand = b.stand;
+      fit = b.rest h.1;
+      sum = sym (b.sum steps) ∙ c.sum;
+      small = true-first (first_small (sums_behind o c.sums)) (are_small_after steps (sums_behind o c.sums)) goal.small c.small (sym b.size ∙ h.1);
+      numbered = c.numbered;
+    })
+operation-taken goal o steps rows new atoms (Err Wide) c h =
+    let b = comes-behind goal o steps rows atoms c in
+    false-first (first_small (sums_behind o c.sums)) (are_small_after steps (sums_behind o c.sums)) goal.small c.small (sym b.size ∙ h)
+operation-taken goal o steps rows new atoms (Err NoMemory) c h = tt

@@ -123,7 +123,7 @@ atom-is us t h = record { in_form = (zero-le (atom_number us t), refl, tt); part
 numbers-append : (us : List TermTree) (xs ys : List Multiple) → have_numbers us xs ≡ true → have_numbers us ys ≡ true → have_numbers us (xs ++ ys) ≡ true
 numbers-append us xs ys h k = list_all-append (λ m. has_atom us m.0) xs ys ∙ and_true (have_numbers us xs) (have_numbers us ys) h k
 
-numbers-scaled : (us : List TermTree) (c : ℤ) (ms : List Multiple) → have_numbers us ms ≡ true → have_numbers us (scaled_multiples c ms) ≡ true
+pub numbers-scaled : (us : List TermTree) (c : ℤ) (ms : List Multiple) → have_numbers us ms ≡ true → have_numbers us (scaled_multiples c ms) ≡ true
 numbers-scaled us c [] h = refl
 numbers-scaled us c (m ∷ ms) h = and_true (has_atom us m.0) (have_numbers us (scaled_multiples c ms)) (and_left (has_atom us m.0) (have_numbers us ms) h)
     (numbers-scaled us c ms (and_right (has_atom us m.0) (have_numbers us ms) h))
