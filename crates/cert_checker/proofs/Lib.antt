@@ -15,3 +15,4 @@ pub mod SizeLaws
 pub mod PlaceInAtoms
 pub mod StepLaws
 pub mod GoalLaws
+pub mod RunLaws

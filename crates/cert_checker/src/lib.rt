@@ -4,6 +4,7 @@
 mod atoms;
 mod laws;
 mod open;
+mod run;
 mod step;
 mod sum;
 

@@ -132,7 +132,7 @@ fn open_multiple<'a>(
 }
 
 /// The row of a term, or the steps that make it.
-fn open<'a>(
+pub(crate) fn open<'a>(
     alloc: Global,
     term: TermRef<'a>,
     steps: &mut Vec<Step<'a>>,

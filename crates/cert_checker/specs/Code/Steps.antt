@@ -1,5 +1,5 @@
 -- How the row of a sum is made: steps that are left to do, and rows that are done, the next and the last one first.
-use Rattle.std.specs.Prelude.{◌≡◌, ℕ, ◌+◌, ◌*◌, ◌≤◌, ℤ, pos, negsuc, ◌-ℤ◌, Bool, true, false, ◌&&◌, List, [], ◌∷◌, ◌++◌, reverse, Option, Some, None, Result, Ok, Err, ⊤}
+use Rattle.std.specs.Prelude.{◌≡◌, ℕ, ◌+◌, ◌*◌, ◌≤◌, ℤ, pos, negsuc, ◌-ℤ◌, Bool, true, false, ◌&&◌, List, [], ◌∷◌, ◌++◌, reverse, length, Option, Some, None, Result, Ok, Err, ⊤}
 use Rattle.std.specs.List.{list_all, AllZip}
 use Rattle.linear_rows.specs.declared.row.Row.{Row}
 use Rattle.linear_rows.specs.declared.row.RowFail.{RowFail}
@@ -198,3 +198,26 @@ abbrev pub IsScaled : Bool → Result (Unit {0}) RowFail → List Step → List 
 IsScaled small (Ok u) made new = (new ≡ made) × (small ≡ true)
 IsScaled small (Err Wide) made new = small ≡ false
 IsScaled small (Err NoMemory) made new = ⊤
+
+-- ---- all steps
+
+abbrev pub HasOperands : Step → List Row → Type 0
+HasOperands (step.Term t) rows = ⊤
+HasOperands (step.Apply o) rows = operands o ≤ length rows
+
+-- the steps come to some goal
+pub record HasGoal (steps : List Step) (rows : List Row) (atoms : List TermTree) : Type 0 where
+  pub goal : Goal
+  pub comes : ComesTo goal steps rows atoms
+
+-- the row that all steps make
+pub record IsMade (goal : Goal) (row : Row) (atoms : List TermTree) : Type 0 where
+  pub is_row : IsSumRow atoms goal.sum row
+  pub fits : row_fits row ≡ true
+  pub small : goal.small ≡ true
+  pub atoms_are : atoms ≡ goal.atoms
+
+abbrev pub Makes : Goal → Result Row RowFail → List TermTree → Type 0
+Makes goal (Ok row) atoms = IsMade goal row atoms
+Makes goal (Err Wide) atoms = goal.small ≡ false
+Makes goal (Err NoMemory) atoms = ⊤
