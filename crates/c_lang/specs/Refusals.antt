@@ -98,6 +98,22 @@ client_call = 21
 abbrev pub no_spec : ℕ
 no_spec = 22
 
+-- a text that holds no hints for the program
+abbrev pub bad_hints : ℕ
+bad_hints = 23
+
+-- a contract that doesn't list a cell which is set under it
+abbrev pub unlisted_cell : ℕ
+unlisted_cell = 24
+
+-- a text that holds no certificates
+abbrev pub bad_certificates : ℕ
+bad_certificates = 25
+
+-- more conditions than can be kept
+abbrev pub too_many_conditions : ℕ
+too_many_conditions = 26
+
 -- a size, a number of cells, elements or parameters past its limit
 abbrev pub past_limit : ℕ
 past_limit = 27

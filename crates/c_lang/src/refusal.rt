@@ -71,6 +71,18 @@ pub const CLIENT_CALL: u8 = 21;
 /// No function of a client can begin a run.
 pub const NO_SPEC: u8 = 22;
 
+/// A text that holds no hints for the program.
+pub const BAD_HINTS: u8 = 23;
+
+/// A contract that doesn't list a cell which is set under it.
+pub const UNLISTED_CELL: u8 = 24;
+
+/// A text that holds no certificates.
+pub const BAD_CERTIFICATES: u8 = 25;
+
+/// More conditions than can be kept.
+pub const TOO_MANY_CONDITIONS: u8 = 26;
+
 /// A size, a number of cells, elements or parameters past its limit.
 pub const PAST_LIMIT: u8 = 27;
 

@@ -2,7 +2,7 @@
 
 use crate::case_error::CaseError;
 use crate::halves;
-use crate::notation::{put_array, put_fact, put_form, put_name, put_term};
+use crate::notation::{put_fact, put_name, put_nodes};
 use crate::reading::{array, fact, form, symbol, term};
 use sqlite_items::{Boxed, Items};
 use std::alloc::{AllocError, Global};
@@ -38,7 +38,7 @@ fn valuation(alloc: Global) -> Result<Boxed<Valuation>, CaseError> {
 pub fn holds(alloc: Global, text: &str) -> Result<String, CaseError> {
     let at = valuation(alloc)?;
     let form = form(alloc, text)?;
-    let said = match holds_at(form.get(), at.get()) {
+    let said = match holds_at(&form, at.get()) {
         Some(true) => "true",
         Some(false) => "false",
         None => "none",
@@ -74,7 +74,7 @@ fn names_text(alloc: Global, names: &[Sym]) -> Result<String, AllocError> {
 
 fn form_text(alloc: Global, form: &Form) -> Result<String, AllocError> {
     let mut said = String::new(alloc);
-    put_form(form, &mut said)?;
+    put_nodes(form.nodes(), &mut said)?;
     Ok(said)
 }
 
@@ -86,32 +86,32 @@ fn fact_text(alloc: Global, fact: &Fact) -> Result<String, AllocError> {
 
 pub fn free_names(alloc: Global, text: &str) -> Result<String, CaseError> {
     let form = form(alloc, text)?;
-    let names = free(alloc, form.get())?;
+    let names = free(alloc, &form)?;
     Ok(names_text(alloc, &names)?)
 }
 
 fn term_copied(alloc: Global, text: &str) -> Result<String, CaseError> {
-    let copy = Boxed::new(alloc, term(alloc, text)?.get().copy(alloc)?)?;
+    let copy = term(alloc, text)?.copy(alloc)?;
     let mut said = String::new(alloc);
-    put_term(copy.get(), &mut said)?;
+    put_nodes(copy.nodes(), &mut said)?;
     Ok(said)
 }
 
 fn array_copied(alloc: Global, text: &str) -> Result<String, CaseError> {
-    let copy = Boxed::new(alloc, array(alloc, text)?.get().copy(alloc)?)?;
+    let copy = array(alloc, text)?.copy(alloc)?;
     let mut said = String::new(alloc);
-    put_array(copy.get(), &mut said)?;
+    put_nodes(copy.nodes(), &mut said)?;
     Ok(said)
 }
 
 fn form_copied(alloc: Global, text: &str) -> Result<String, CaseError> {
-    let copy = Boxed::new(alloc, form(alloc, text)?.get().copy(alloc)?)?;
-    Ok(form_text(alloc, copy.get())?)
+    let copy = form(alloc, text)?.copy(alloc)?;
+    Ok(form_text(alloc, &copy)?)
 }
 
 fn fact_copied(alloc: Global, text: &str) -> Result<String, CaseError> {
-    let copy = Boxed::new(alloc, fact(alloc, text)?.get().copy(alloc)?)?;
-    Ok(fact_text(alloc, copy.get())?)
+    let copy = fact(alloc, text)?.copy(alloc)?;
+    Ok(fact_text(alloc, &copy)?)
 }
 
 /// A copy of a term, an array, a form or a fact.
@@ -132,8 +132,8 @@ fn form_with_number(
     name: &Sym,
     by: &Term,
 ) -> Result<String, AllocError> {
-    let made = Boxed::new(alloc, subst(alloc, form, name, by)?)?;
-    form_text(alloc, made.get())
+    let made = subst(alloc, form, name, by)?;
+    form_text(alloc, &made)
 }
 
 fn form_with_array(
@@ -142,8 +142,8 @@ fn form_with_array(
     name: &Sym,
     by: &ArrayTerm,
 ) -> Result<String, AllocError> {
-    let made = Boxed::new(alloc, subst_row(alloc, form, name, by)?)?;
-    form_text(alloc, made.get())
+    let made = subst_row(alloc, form, name, by)?;
+    form_text(alloc, &made)
 }
 
 /// `NAME : TERM : FORM`, the form with the term for the name.
@@ -153,7 +153,7 @@ pub fn number_replaced(alloc: Global, parts: &str) -> Result<String, CaseError> 
     let name = symbol(alloc, name)?;
     let by = term(alloc, by)?;
     let form = form(alloc, text)?;
-    Ok(form_with_number(alloc, form.get(), &name, by.get())?)
+    Ok(form_with_number(alloc, &form, &name, &by)?)
 }
 
 /// `NAME : ARRAY : FORM`, the form with the array for the name.
@@ -163,7 +163,7 @@ pub fn array_replaced(alloc: Global, parts: &str) -> Result<String, CaseError> {
     let name = symbol(alloc, name)?;
     let by = array(alloc, by)?;
     let form = form(alloc, text)?;
-    Ok(form_with_array(alloc, form.get(), &name, by.get())?)
+    Ok(form_with_array(alloc, &form, &name, &by)?)
 }
 
 fn fact_with_number(
@@ -175,8 +175,8 @@ fn fact_with_number(
     if fact.captures(by) {
         return String::from_str(alloc, "captured");
     }
-    let made = Boxed::new(alloc, subst_fact(alloc, fact, name, by)?)?;
-    fact_text(alloc, made.get())
+    let made = subst_fact(alloc, fact, name, by)?;
+    fact_text(alloc, &made)
 }
 
 fn fact_with_array(
@@ -188,8 +188,8 @@ fn fact_with_array(
     if fact.captures_row(by) {
         return String::from_str(alloc, "captured");
     }
-    let made = Boxed::new(alloc, subst_fact_row(alloc, fact, name, by)?)?;
-    fact_text(alloc, made.get())
+    let made = subst_fact_row(alloc, fact, name, by)?;
+    fact_text(alloc, &made)
 }
 
 /// `NAME : TERM : FACT`, the fact with the term for the name.
@@ -199,7 +199,7 @@ pub fn number_replaced_in_fact(alloc: Global, parts: &str) -> Result<String, Cas
     let name = symbol(alloc, name)?;
     let by = term(alloc, by)?;
     let fact = fact(alloc, text)?;
-    Ok(fact_with_number(alloc, fact.get(), &name, by.get())?)
+    Ok(fact_with_number(alloc, &fact, &name, &by)?)
 }
 
 /// `NAME : ARRAY : FACT`, the fact with the array for the name.
@@ -209,5 +209,5 @@ pub fn array_replaced_in_fact(alloc: Global, parts: &str) -> Result<String, Case
     let name = symbol(alloc, name)?;
     let by = array(alloc, by)?;
     let fact = fact(alloc, text)?;
-    Ok(fact_with_array(alloc, fact.get(), &name, by.get())?)
+    Ok(fact_with_array(alloc, &fact, &name, &by)?)
 }

@@ -2,7 +2,7 @@
 
 use std::alloc::AllocError;
 use std::str;
-use terms::{ArrayTerm, Fact, Form, Sym, Term};
+use terms::{Fact, Node, NodeKind, Sym};
 
 // A space, where something stands before it.
 fn put_space(out: &mut String) -> Result<(), AllocError> {
@@ -31,87 +31,47 @@ pub fn put_name(name: &Sym, out: &mut String) -> Result<(), AllocError> {
     Ok(())
 }
 
-#[cycle(written)]
-pub fn put_term(term: &Term, out: &mut String) -> Result<(), AllocError> {
-    let (left, right, sign) = match term {
-        Term::Num(number) => return put_number(out, *number),
-        Term::Of(name) => return put_name(name, out),
-        Term::Read(array, index) => {
-            put_array(array.get(), out)?;
-            put_term(index.get(), out)?;
-            return put_word(out, "[]");
-        }
-        Term::Truth(form) => {
-            put_form(form.get(), out)?;
-            return put_word(out, "?");
-        }
-        Term::Add(left, right) => (left, right, "+"),
-        Term::Sub(left, right) => (left, right, "-"),
-        Term::Mul(left, right) => (left, right, "*"),
-        Term::Div(left, right) => (left, right, "/"),
-        Term::Rem(left, right) => (left, right, "%"),
-    };
-    put_term(left.get(), out)?;
-    put_term(right.get(), out)?;
-    put_word(out, sign)
-}
-
-#[cycle(written)]
-pub fn put_array(array: &ArrayTerm, out: &mut String) -> Result<(), AllocError> {
-    match array {
-        ArrayTerm::Base(name) => put_name(name, out),
-        ArrayTerm::Store(array, index, value) => {
-            put_array(array.get(), out)?;
-            put_term(index.get(), out)?;
-            put_term(value.get(), out)?;
-            put_word(out, "[]=")
-        }
+fn put_node(node: &Node, out: &mut String) -> Result<(), AllocError> {
+    match &node.kind {
+        NodeKind::Num(number) => put_number(out, *number),
+        NodeKind::Of(name) => put_name(name, out),
+        NodeKind::Base(name) => put_name(name, out),
+        NodeKind::Add => put_word(out, "+"),
+        NodeKind::Sub => put_word(out, "-"),
+        NodeKind::Mul => put_word(out, "*"),
+        NodeKind::Div => put_word(out, "/"),
+        NodeKind::Rem => put_word(out, "%"),
+        NodeKind::Read => put_word(out, "[]"),
+        NodeKind::Truth => put_word(out, "?"),
+        NodeKind::Store => put_word(out, "[]="),
+        NodeKind::True => put_word(out, "true"),
+        NodeKind::False => put_word(out, "false"),
+        NodeKind::Le => put_word(out, "<="),
+        NodeKind::Eq => put_word(out, "="),
+        NodeKind::Not => put_word(out, "!"),
+        NodeKind::And => put_word(out, "&"),
+        NodeKind::Or => put_word(out, "|"),
     }
 }
 
-#[cycle(written)]
-pub fn put_form(form: &Form, out: &mut String) -> Result<(), AllocError> {
-    match form {
-        Form::True => put_word(out, "true"),
-        Form::False => put_word(out, "false"),
-        Form::Le(left, right) => {
-            put_term(left, out)?;
-            put_term(right, out)?;
-            put_word(out, "<=")
-        }
-        Form::Eq(left, right) => {
-            put_term(left, out)?;
-            put_term(right, out)?;
-            put_word(out, "=")
-        }
-        Form::Not(inner) => {
-            put_form(inner.get(), out)?;
-            put_word(out, "!")
-        }
-        Form::And(left, right) => {
-            put_form(left.get(), out)?;
-            put_form(right.get(), out)?;
-            put_word(out, "&")
-        }
-        Form::Or(left, right) => {
-            put_form(left.get(), out)?;
-            put_form(right.get(), out)?;
-            put_word(out, "|")
-        }
+pub fn put_nodes(nodes: &[Node], out: &mut String) -> Result<(), AllocError> {
+    for node in nodes {
+        put_node(node, out)?;
     }
+    Ok(())
 }
 
 pub fn put_fact(fact: &Fact, out: &mut String) -> Result<(), AllocError> {
     match fact {
-        Fact::Plain(form) => put_form(form, out),
+        Fact::Plain(form) => put_nodes(form.nodes(), out),
         Fact::All { var, lo, hi, body } => {
             put_name(var, out)?;
             put_word(out, ":")?;
-            put_term(lo, out)?;
+            put_nodes(lo.nodes(), out)?;
             put_word(out, ":")?;
-            put_term(hi, out)?;
+            put_nodes(hi.nodes(), out)?;
             put_word(out, ":")?;
-            put_form(body, out)
+            put_nodes(body.nodes(), out)
         }
     }
 }

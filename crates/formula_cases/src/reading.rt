@@ -4,7 +4,6 @@
 use crate::case_error::CaseError;
 use crate::halves;
 use c_lang::Name;
-use sqlite_items::Boxed;
 use std::alloc::Global;
 use terms::{ArrayTerm, Fact, Form, Sym, Term};
 
@@ -12,9 +11,9 @@ use terms::{ArrayTerm, Fact, Form, Sym, Term};
 #[derive(Drop)]
 struct Stacks {
     alloc: Global,
-    terms: Vec<Boxed<Term>>,
-    arrays: Vec<Boxed<ArrayTerm>>,
-    forms: Vec<Boxed<Form>>,
+    terms: Vec<Term>,
+    arrays: Vec<ArrayTerm>,
+    forms: Vec<Form>,
 }
 
 /// A name, as `x`, or `x2` with the count 2.
@@ -37,86 +36,85 @@ impl Stacks {
         }
     }
 
-    fn term(&mut self) -> Result<Boxed<Term>, CaseError> {
+    fn term(&mut self) -> Result<Term, CaseError> {
         self.terms.pop().ok_or(CaseError::Malformed)
     }
 
-    fn array(&mut self) -> Result<Boxed<ArrayTerm>, CaseError> {
+    fn array(&mut self) -> Result<ArrayTerm, CaseError> {
         self.arrays.pop().ok_or(CaseError::Malformed)
     }
 
-    fn form(&mut self) -> Result<Boxed<Form>, CaseError> {
+    fn form(&mut self) -> Result<Form, CaseError> {
         self.forms.pop().ok_or(CaseError::Malformed)
     }
 
-    fn operation(&mut self, word: &str) -> Result<Boxed<Term>, CaseError> {
+    fn operation(&mut self, word: &str) -> Result<Term, CaseError> {
         let right = self.term()?;
         let left = self.term()?;
         let made = match word {
-            "+" => Boxed::new(self.alloc, Term::Add(left, right)),
-            "-" => Boxed::new(self.alloc, Term::Sub(left, right)),
-            "*" => Boxed::new(self.alloc, Term::Mul(left, right)),
-            "/" => Boxed::new(self.alloc, Term::Div(left, right)),
-            _ => Boxed::new(self.alloc, Term::Rem(left, right)),
+            "+" => Term::add(left, right),
+            "-" => Term::sub(left, right),
+            "*" => Term::mul(left, right),
+            "/" => Term::div(left, right),
+            _ => Term::rem(left, right),
         };
         Ok(made?)
     }
 
-    fn element(&mut self) -> Result<Boxed<Term>, CaseError> {
+    fn element(&mut self) -> Result<Term, CaseError> {
         let index = self.term()?;
         let array = self.array()?;
-        Ok(Boxed::new(self.alloc, Term::Read(array, index))?)
+        Ok(Term::read(array, index)?)
     }
 
-    fn truth(&mut self) -> Result<Boxed<Term>, CaseError> {
+    fn truth(&mut self) -> Result<Term, CaseError> {
         let form = self.form()?;
-        Ok(Boxed::new(self.alloc, Term::Truth(form))?)
+        Ok(Term::truth(form)?)
     }
 
-    fn store(&mut self) -> Result<Boxed<ArrayTerm>, CaseError> {
+    fn store(&mut self) -> Result<ArrayTerm, CaseError> {
         let value = self.term()?;
         let index = self.term()?;
         let array = self.array()?;
-        Ok(Boxed::new(self.alloc, ArrayTerm::Store(array, index, value))?)
+        Ok(ArrayTerm::store(array, index, value)?)
     }
 
-    fn comparison(&mut self, word: &str) -> Result<Boxed<Form>, CaseError> {
+    fn comparison(&mut self, word: &str) -> Result<Form, CaseError> {
         let right = self.term()?;
         let left = self.term()?;
         let made = match word {
-            "=" => Boxed::new(self.alloc, Form::Eq(left.into_inner(), right.into_inner())),
-            _ => Boxed::new(self.alloc, Form::Le(left.into_inner(), right.into_inner())),
+            "=" => Form::equal(left, right),
+            _ => Form::at_most(left, right),
         };
         Ok(made?)
     }
 
-    fn junction(&mut self, word: &str) -> Result<Boxed<Form>, CaseError> {
+    fn junction(&mut self, word: &str) -> Result<Form, CaseError> {
         let right = self.form()?;
         let left = self.form()?;
         let made = match word {
-            "&" => Boxed::new(self.alloc, Form::And(left, right)),
-            _ => Boxed::new(self.alloc, Form::Or(left, right)),
+            "&" => Form::both(left, right),
+            _ => Form::either(left, right),
         };
         Ok(made?)
     }
 
-    fn negation(&mut self) -> Result<Boxed<Form>, CaseError> {
+    fn negation(&mut self) -> Result<Form, CaseError> {
         let form = self.form()?;
-        Ok(Boxed::new(self.alloc, Form::Not(form))?)
+        Ok(Form::denied(form)?)
     }
 
     // A number, or a name of a number or an array.
     fn read_leaf(&mut self, word: &str) -> Result<(), CaseError> {
         if let Ok(number) = word.parse::<i128>() {
-            self.terms.push(Boxed::new(self.alloc, Term::Num(number))?)?;
+            self.terms.push(Term::number(self.alloc, number)?)?;
             return Ok(());
         }
         let name = symbol(self.alloc, word)?;
         if word.starts_with(|c: char| c.is_ascii_uppercase()) {
-            self.arrays
-                .push(Boxed::new(self.alloc, ArrayTerm::Base(name))?)?;
+            self.arrays.push(ArrayTerm::base(self.alloc, name)?)?;
         } else {
-            self.terms.push(Boxed::new(self.alloc, Term::Of(name))?)?;
+            self.terms.push(Term::name(self.alloc, name)?)?;
         }
         Ok(())
     }
@@ -137,8 +135,8 @@ impl Stacks {
 
     fn read_form(&mut self, word: &str) -> Result<(), CaseError> {
         let made = match word {
-            "true" => Boxed::new(self.alloc, Form::True)?,
-            "false" => Boxed::new(self.alloc, Form::False)?,
+            "true" => Form::always(self.alloc)?,
+            "false" => Form::never(self.alloc)?,
             "!" => self.negation()?,
             "<=" | "=" => self.comparison(word)?,
             _ => self.junction(word)?,
@@ -159,29 +157,29 @@ impl Stacks {
     }
 }
 
-pub fn term(alloc: Global, text: &str) -> Result<Boxed<Term>, CaseError> {
+pub fn term(alloc: Global, text: &str) -> Result<Term, CaseError> {
     let mut stacks = Stacks::new(alloc);
     stacks.read(text)?;
     stacks.term()
 }
 
-pub fn array(alloc: Global, text: &str) -> Result<Boxed<ArrayTerm>, CaseError> {
+pub fn array(alloc: Global, text: &str) -> Result<ArrayTerm, CaseError> {
     let mut stacks = Stacks::new(alloc);
     stacks.read(text)?;
     stacks.array()
 }
 
-pub fn form(alloc: Global, text: &str) -> Result<Boxed<Form>, CaseError> {
+pub fn form(alloc: Global, text: &str) -> Result<Form, CaseError> {
     let mut stacks = Stacks::new(alloc);
     stacks.read(text)?;
     stacks.form()
 }
 
 /// A form, or a fact about a range by its parts: `k : 0 : x : A k [] x <=`.
-pub fn fact(alloc: Global, text: &str) -> Result<Boxed<Fact>, CaseError> {
+pub fn fact(alloc: Global, text: &str) -> Result<Fact, CaseError> {
     let (name, range) = halves(text);
     if range.is_empty() {
-        return Ok(Boxed::new(alloc, Fact::Plain(form(alloc, text)?.into_inner()))?);
+        return Ok(Fact::Plain(form(alloc, text)?));
     }
     let (low, rest) = halves(range);
     let (high, body) = halves(rest);
@@ -189,11 +187,5 @@ pub fn fact(alloc: Global, text: &str) -> Result<Boxed<Fact>, CaseError> {
     let lo = term(alloc, low)?;
     let hi = term(alloc, high)?;
     let body = form(alloc, body)?;
-    let fact = Fact::All {
-        var,
-        lo: lo.into_inner(),
-        hi: hi.into_inner(),
-        body: body.into_inner(),
-    };
-    Ok(Boxed::new(alloc, fact)?)
+    Ok(Fact::All { var, lo, hi, body })
 }

@@ -1,6 +1,6 @@
 -- What the operands of a formula are.
 use Rattle.std.proofs.Common.{◌≡◌, ℕ, ◌+◌, ◌-◌, List, [], ◌∷◌, ◌++◌, length, take, drop, refl, sym, ap, ap₂, ◌∙◌, subst, append_assoc, arith}
-use Rattle.std.proofs.lemmas.List.{length-append, append-nil, same_from_push}
+use Rattle.std.proofs.lemmas.List.{length-append, same_from_push}
 use Rattle.std.proofs.Math.Seq.{take-append_seam, drop-append_seam}
 use Rattle.terms.specs.declared.node.Node.{Node}
 use Rattle.terms.specs.declared.node.NodeKind.{NodeKind}
@@ -90,6 +90,18 @@ place ms ns n s =
 last-sized : (ms ns : List Node) (n : ℕ) → Sized ns n → (before_last (ms ++ ns) ≡ ms) × (last_part (ms ++ ns) ≡ ns)
 unfolding before_last last_part
 last-sized ms ns n s = (ap (λ k. take k (ms ++ ns)) (place ms ns n s) ∙ take-append_seam ms ns, ap (λ k. drop k (ms ++ ns)) (place ms ns n s) ∙ drop-append_seam ms ns)
+
+end-sized : (ms ns : List Node) (n : ℕ) → Sized ns n → end_size (ms ++ ns) ≡ n
+end-sized ms ns n s = ap (λ xs. end_size (ms ++ xs)) s.whole ∙ ap end_size (sym (append_assoc ms s.front (s.root ∷ []))) ∙ end_size-last (ms ++ s.front) s.root ∙ s.size
+
+pub term_end : (ms : List Node) (t : TermTree) → end_size (ms ++ term_nodes t) ≡ term_size t
+term_end ms t = end-sized ms (term_nodes t) (term_size t) (term_sized t)
+
+pub array_end : (ms : List Node) (a : ArrayTree) → end_size (ms ++ array_nodes a) ≡ array_size a
+array_end ms a = end-sized ms (array_nodes a) (array_size a) (array_sized a)
+
+pub form_end : (ms : List Node) (f : FormTree) → end_size (ms ++ form_nodes f) ≡ form_size f
+form_end ms f = end-sized ms (form_nodes f) (form_size f) (form_sized f)
 
 pub last_term : (ms : List Node) (t : TermTree) → (before_last (ms ++ term_nodes t) ≡ ms) × (last_part (ms ++ term_nodes t) ≡ term_nodes t)
 last_term ms t = last-sized ms (term_nodes t) (term_size t) (term_sized t)
@@ -273,3 +285,5 @@ made_of_three ls ms ns fs os made xs ys zs l m n k e f g p q h b c d =
     (q ∙ ap₂ (λ u v. u ++ v) (p ∙ ap₂ (λ u v. u ++ v) e f) g ∙ append_assoc xs ys zs) h
     (length-append xs (ys ++ zs) ∙ ap₂ (λ u v. u + v) b (length-append ys zs ∙ ap₂ (λ u v. u + v) c d))
     ∙ append_assoc xs (ys ++ zs) end ∙ ap (λ u. xs ++ u) (append_assoc ys zs end)
+
+pub ruleset counts = (term_count, array_count, form_count)

@@ -3,3 +3,6 @@ pub mod NodeLaws
 pub mod SymbolLaws
 pub mod EqualityLaws
 pub mod Operands
+pub mod Rewriting
+pub mod Operations
+pub mod Occurrences

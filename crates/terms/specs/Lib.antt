@@ -8,4 +8,5 @@ pub mod Truth
 pub mod Replacing
 pub mod Valuations
 pub mod Validity
+pub mod Sizes
 pub mod Code

@@ -1,9 +1,10 @@
 -- The names and the terms that stand in a formula, from left to right.
-use Rattle.std.specs.Prelude.{Bool, false, not, if◌then◌else◌, List, [], ◌∷◌, ◌++◌, filter, map}
+use Rattle.std.specs.Prelude.{Bool, false, not, ◌||◌, if◌then◌else◌, List, [], ◌∷◌, ◌++◌, filter, map, flat_map}
 use Rattle.std.specs.List.{list_any}
 use Rattle.terms.specs.declared.sym.Sym.{Sym}
 use Rattle.terms.specs.declared.fact.Fact.{Fact}
 use Rattle.terms.specs.declared.fact.Fact.TheVariants as fact
+use Rattle.terms.specs.declared.sequent.Sequent.{Sequent}
 use Rattle.terms.specs.Symbols.{same_sym}
 use Rattle.terms.specs.Trees.{TermTree, number, name, plus, minus, times, divided, remainder, read, truth, ArrayTree, array, stored, FormTree, always, never, at_most, equal, denied, both, either}
 
@@ -51,6 +52,10 @@ abbrev pub fact_names : Fact → List Occurrence
 fact_names (fact.Plain f) = form_names f
 fact_names (fact.All x lo hi f) = term_names lo ++ (term_names hi ++ filter (λ o. not (is_number x o)) (form_names f))
 
+-- the free names of a sequent, those of its hypotheses first
+abbrev pub sequent_names : Sequent → List Occurrence
+sequent_names s = flat_map fact_names s.hyps ++ fact_names s.goal
+
 -- whether the number that the fact binds is among the names
 abbrev pub captures : Fact → List Occurrence → Bool
 captures (fact.Plain f) names = false
@@ -70,9 +75,21 @@ abbrev pub first_occurrences : List Sym → List Sym
 first_occurrences [] = []
 first_occurrences (x ∷ xs) = x ∷ filter (λ y. not (same_sym x y)) (first_occurrences xs)
 
--- the names of a form, each once, in the order of their first places
-abbrev pub distinct_names : FormTree → List Sym
-distinct_names f = first_occurrences (map symbol (form_names f))
+-- the names in a list of occurrences, each once, in the order of their first places
+abbrev pub distinct : List Occurrence → List Sym
+distinct os = first_occurrences (map symbol os)
+
+-- whether a name stands somewhere, as a number, as an array, or as a bound name
+abbrev pub occurs_among : Sym → List Occurrence → Bool
+occurs_among x os = list_any (λ o. same_sym x (symbol o)) os
+
+abbrev pub occurs_in_fact : Sym → Fact → Bool
+occurs_in_fact x (fact.Plain f) = occurs_among x (form_names f)
+occurs_in_fact x (fact.All y lo hi f) = same_sym x y || (occurs_among x (term_names lo) || (occurs_among x (term_names hi) || occurs_among x (form_names f)))
+
+-- the same of a sequent, its sorts included
+abbrev pub occurs_in_sequent : Sym → Sequent → Bool
+occurs_in_sequent x s = list_any (λ e. same_sym x e.0) s.sorts || (list_any (occurs_in_fact x) s.hyps || occurs_in_fact x s.goal)
 
 -- the terms in a formula, each before its parts
 abbrev mutual

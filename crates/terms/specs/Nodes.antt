@@ -1,5 +1,5 @@
 -- The nodes of a formula in postfix order, in which operands stand before their operator.
-use Rattle.std.specs.Prelude.{ℕ, ◌+◌, ℤ, pos, List, [], ◌∷◌, ◌++◌}
+use Rattle.std.specs.Prelude.{ℕ, ◌+◌, pos, List, [], ◌∷◌, ◌++◌}
 use Rattle.terms.specs.declared.node.Node.{Node}
 use Rattle.terms.specs.declared.node.NodeKind.{NodeKind}
 use Rattle.terms.specs.declared.node.NodeKind.TheVariants as kind

@@ -1,6 +1,8 @@
 -- Names replaced in formulas, all at once.
-use Rattle.std.specs.Prelude.{◌≡◌, false, [], ◌∷◌, if◌then◌else◌}
+use Rattle.std.specs.Prelude.{◌≡◌, false, [], ◌∷◌, if◌then◌else◌, find, unwrap_or}
+use Rattle.std.specs.Option.{option_map}
 use Rattle.terms.specs.declared.sym.Sym.{Sym}
+use Rattle.terms.specs.declared.changes.Changes.{Changes}
 use Rattle.terms.specs.declared.fact.Fact.{Fact}
 use Rattle.terms.specs.declared.fact.Fact.TheVariants as fact
 use Rattle.terms.specs.Symbols.{same_sym}
@@ -61,3 +63,10 @@ changed c v = record { value = λ x. term_at v (c.number x); element = λ x. arr
 pub record Avoids (c : Change) (f : Fact) : Type 0 where
   pub numbers : (x : Sym) → captures f (as_number x ∷ []) ≡ false → captures f (term_names (c.number x)) ≡ false
   pub arrays : (x : Sym) → captures f (array_names (c.array x)) ≡ false
+
+-- many names at once, by lists in which the first pair of a name counts
+abbrev pub change_in : Changes → Change
+change_in c = record {
+  number = λ x. unwrap_or (option_map (λ p. p.1) (find (λ p. same_sym p.0 x) c.numbers)) (name x);
+  array = λ x. unwrap_or (option_map (λ p. p.1) (find (λ p. same_sym p.0 x) c.arrays)) (array x);
+}

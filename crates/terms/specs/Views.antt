@@ -1,5 +1,4 @@
 -- What a view of a formula's outermost operator stands for.
-use Rattle.terms.specs.declared.sym.Sym.{Sym}
 use Rattle.terms.specs.declared.view.TermView.{TermView}
 use Rattle.terms.specs.declared.view.TermView.TheVariants as term
 use Rattle.terms.specs.declared.view.ArrayView.{ArrayView}

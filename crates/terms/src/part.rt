@@ -1,4 +1,4 @@
-ghost use Rattle.std.specs.Prelude.{◌≡◌, IfOk};
+ghost use Rattle.std.specs.Prelude.{◌≡◌, ◌<◌, ◌^◌, IfOk};
 ghost use Rattle.terms.specs.Nodes.{term_nodes, array_nodes, form_nodes, term_in, array_in, form_in};
 ghost use Rattle.terms.specs.Views.{viewed_term, viewed_array, viewed_form};
 ghost use Rattle.terms.specs.Code.Operands.{end_size, before_last, last_part};
@@ -11,8 +11,9 @@ use std::alloc::{AllocError, Global};
 use std::marker::Model;
 
 /// The size of the part that ends in the last node.
-fn end_size(nodes: &[Node]) -> usize
-    ensures { result ≡ end_size nodes.now }
+pub(crate) fn end_size(nodes: &[Node]) -> usize
+    ensures size { result ≡ end_size nodes.now }
+    ensures small { result < 2 ^ 32 }
 {
     match nodes.split_last() {
         Some((node, _)) => node.size as usize,
@@ -22,7 +23,7 @@ fn end_size(nodes: &[Node]) -> usize
 
 /// The part that ends in the last node, behind what stands before it.
 #[tactic(auto, unfolding(crate::specs::Code::Operands::before_last, crate::specs::Code::Operands::last_part))]
-fn apart(nodes: &[Node]) -> (&[Node], &[Node])
+pub(crate) fn apart(nodes: &[Node]) -> (&[Node], &[Node])
     ensures first { result.0.now ≡ before_last nodes.now }
     ensures last { result.1.now ≡ last_part nodes.now }
 {

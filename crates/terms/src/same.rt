@@ -144,7 +144,6 @@ impl PartialEq for Node {
 
 impl Eq for Node {
     ghost use Rattle.terms.specs.Equality.{same_node};
-
     ghost use Rattle.terms.specs.Code.EqualityLaws.{is_equivalence, same_node-equal, same_node-refl};
 
     ghost laws = { is_equivalence same_node same_node-equal same_node-refl };
@@ -166,7 +165,6 @@ impl PartialEq for Term {
 
 impl Eq for Term {
     ghost use Rattle.terms.specs.Equality.{same_term};
-
     ghost use Rattle.terms.specs.Code.EqualityLaws.{is_equivalence, same_term-equal, same_term-refl};
 
     ghost laws = { is_equivalence same_term same_term-equal same_term-refl };
@@ -188,7 +186,6 @@ impl PartialEq for ArrayTerm {
 
 impl Eq for ArrayTerm {
     ghost use Rattle.terms.specs.Equality.{same_array};
-
     ghost use Rattle.terms.specs.Code.EqualityLaws.{is_equivalence, same_array-equal, same_array-refl};
 
     ghost laws = { is_equivalence same_array same_array-equal same_array-refl };
@@ -210,7 +207,6 @@ impl PartialEq for Form {
 
 impl Eq for Form {
     ghost use Rattle.terms.specs.Equality.{same_form};
-
     ghost use Rattle.terms.specs.Code.EqualityLaws.{is_equivalence, same_form-equal, same_form-refl};
 
     ghost laws = { is_equivalence same_form same_form-equal same_form-refl };
@@ -246,7 +242,6 @@ impl PartialEq for Fact {
 
 impl Eq for Fact {
     ghost use Rattle.terms.specs.Equality.{same_fact};
-
     ghost use Rattle.terms.specs.Code.EqualityLaws.{is_equivalence, same_fact-equal, same_fact-refl};
 
     ghost laws = { is_equivalence same_fact same_fact-equal same_fact-refl };

@@ -1,9 +1,9 @@
-use Rattle.std.proofs.Common.{◌≡◌, inl, inr, ◌∙◌, refl, sym, ap, ap₂, subst}
+use Rattle.std.proofs.Common.{inl, inr, ◌∙◌, sym, ap, subst}
 use Rattle.terms.specs.declared.node.NodeKind.TheVariants as kind
-use Rattle.terms.specs.Trees.{number, name, plus, minus, times, divided, remainder, read, truth, array, stored, always, never, at_most, equal, denied, both, either}
-use Rattle.terms.specs.Nodes.{term_in, array_in, form_in}
+use Rattle.terms.specs.Trees.{stored}
+use Rattle.terms.specs.Nodes.{term_in, array_in}
 use Rattle.terms.specs.Code.Operands.{before_last, last_part, IsTerm, IsArray}
-use Rattle.terms.proofs.OperandLaws.{term_by_root, array_by_root, form_by_root}
+use Rattle.terms.proofs.OperandLaws.{array_by_root}
 use Rattle.terms.proofs.part.ArrayRef.view.Goals as goal
 
 pub returns-in-Base : goal.returns-in-Base

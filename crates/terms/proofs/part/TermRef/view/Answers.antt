@@ -1,11 +1,11 @@
-use Rattle.std.proofs.Common.{rules, FitsSigned, ◌≡◌, inl, inr, ◌∙◌, refl, sym, ap, ap₂, subst}
+use Rattle.std.proofs.Common.{rules, FitsSigned, inl, inr, ◌∙◌, sym, ap, ap₂, subst}
 use Rattle.std.specs.Int.{w128}
 use Rattle.std.proofs.lemmas.Int.{to_z-of_z}
 use Rattle.terms.specs.declared.node.NodeKind.TheVariants as kind
-use Rattle.terms.specs.Trees.{number, name, plus, minus, times, divided, remainder, read, truth, array, stored, always, never, at_most, equal, denied, both, either}
-use Rattle.terms.specs.Nodes.{term_in, array_in, form_in}
-use Rattle.terms.specs.Code.Operands.{IsTerm, IsArray, IsForm}
-use Rattle.terms.proofs.OperandLaws.{term_by_root, array_by_root, form_by_root}
+use Rattle.terms.specs.Trees.{number, plus, minus, times, divided, remainder, read}
+use Rattle.terms.specs.Nodes.{term_in, array_in}
+use Rattle.terms.specs.Code.Operands.{IsTerm, IsArray}
+use Rattle.terms.proofs.OperandLaws.{term_by_root}
 use Rattle.terms.proofs.part.TermRef.view.Goals as goal
 
 pub invariant_of-result : goal.invariant_of-result
