@@ -12,7 +12,7 @@ use Rattle.terms.specs.declared.sequent.Sort.{Sort}
 use Rattle.terms.specs.declared.sequent.Sort.TheVariants as sort
 use Rattle.terms.specs.declared.sym.Sym.{Sym}
 use Rattle.terms.specs.Symbols.{same_sym}
-use Rattle.terms.specs.Names.{Occurrence, as_number, as_array, symbol, is_number, term_names, form_names, fact_names}
+use Rattle.terms.specs.Names.{Occurrence, as_number, as_array, symbol, is_number, term_names, form_names, fact_names, occurs_among, occurs_in_fact, occurs_in_sequent}
 use Rattle.terms.specs.Trees.{TermTree, name, plus, FormTree, at_most, denied}
 use Rattle.terms.specs.Truth.{Interpretation, with_value, term_at, form_at, FactAt, AgreesAt}
 use Rattle.terms.specs.Replacing.{number_by, replaced_form}
@@ -21,12 +21,11 @@ use Rattle.terms.specs.Code.SymbolLaws.{same_sym-equal, same_sym-refl}
 use Rattle.cert_form.specs.declared.cert.Rule.{Rule}
 use Rattle.cert_form.specs.declared.cert.Cert.{Cert}
 use Rattle.cert_checker.specs.Rules.{one, children}
-use Rattle.cert_checker.specs.Occurrences.{occurs_among, occurs_in_fact, occurs_in_sequent}
 use Rattle.cert_checker.specs.Fails.{Fails}
 use Rattle.cert_checker.specs.Checks.{fresh, denied_fact, opening, goes_on, checks, one_after_another, has_fresh_name, checks_sequent, Checks}
 use Rattle.cert_checker.proofs.Choices.{by_bool, and_left, and_right, or_left, or_right, All-left, All-right, All-none}
-use Rattle.cert_checker.proofs.NameLaws.{form_at-agree, term_at-agree, FactAt-agree, AgreesAt-both}
-use Rattle.cert_checker.proofs.ReplacingLaws.{form_at-number_by}
+use Rattle.terms.proofs.NameLaws.{form_at-agree, term_at-agree, FactAt-agree, AgreesAt-both}
+use Rattle.terms.proofs.ReplacingLaws.{form_at-number_by}
 use Rattle.cert_checker.proofs.RuleLaws.{rule-sound}
 
 -- ---- where the rules check, every branch fails
@@ -85,17 +84,30 @@ agrees v x n (as_array y) e = λ k. refl
 names-agree : (v : Interpretation) (x : Sym) (n : ℤ) (names : List Occurrence) → occurs_among x names ≡ false → All (AgreesAt v (with_value v x n)) names
 names-agree v x n names none = All-none (λ o. same_sym x (symbol o)) (AgreesAt v (with_value v x n)) (agrees v x n) names none
 
+-- the names of a fact with a bound name, apart
+record PartsAgree (v w : Interpretation) (lo hi : TermTree) (f : FormTree) : Type 0 where
+  low : All (AgreesAt v w) (term_names lo)
+  high : All (AgreesAt v w) (term_names hi)
+  body : All (AgreesAt v w) (form_names f)
+
+parts-agree : (v : Interpretation) (x : Sym) (n : ℤ) (y : Sym) (lo hi : TermTree) (f : FormTree) → occurs_in_fact x (fact.All y lo hi f) ≡ false → PartsAgree v (with_value v x n) lo hi f
+parts-agree v x n y lo hi f none =
+    let bounds = or_right (same_sym x y) (occurs_among x (term_names lo) || (occurs_among x (term_names hi) || occurs_among x (form_names f))) none in
+    let rest = or_right (occurs_among x (term_names lo)) (occurs_among x (term_names hi) || occurs_among x (form_names f)) bounds in record {
+      low = names-agree v x n (term_names lo) (or_left (occurs_among x (term_names lo)) (occurs_among x (term_names hi) || occurs_among x (form_names f)) bounds);
+      high = names-agree v x n (term_names hi) (or_left (occurs_among x (term_names hi)) (occurs_among x (form_names f)) rest);
+      body = names-agree v x n (form_names f) (or_right (occurs_among x (term_names hi)) (occurs_among x (form_names f)) rest);
+    }
+
 fact-stays : (v : Interpretation) (x : Sym) (n : ℤ) (f : Fact) → occurs_in_fact x f ≡ false → FactAt v f → FactAt (with_value v x n) f
 fact-stays v x n (fact.Plain f) none h = FactAt-agree v (with_value v x n) (fact.Plain f) (names-agree v x n (form_names f) none) h
 fact-stays v x n (fact.All y lo hi f) none h =
     let P = AgreesAt v (with_value v x n) in
-    let all = names-agree v x n (term_names lo ++ (term_names hi ++ form_names f)) (or_right (same_sym x y) (occurs_among x (term_names lo ++ (term_names hi ++ form_names f))) none) in
-    let rest = All-right P (term_names lo) (term_names hi ++ form_names f) all in
+    let parts = parts-agree v x n y lo hi f none in
     let free : List Occurrence = filter (λ o. not (is_number y o)) (form_names f) in
     FactAt-agree v (with_value v x n) (fact.All y lo hi f)
-    (All-append P (term_names lo) (term_names hi ++ free) (All-left P (term_names lo) (term_names hi ++ form_names f) all)
-    (All-append P (term_names hi) free (All-left P (term_names hi) (form_names f) rest)
-    (All-filter (λ o. not (is_number y o)) P (form_names f) (All-right P (term_names hi) (form_names f) rest)))) h
+    (All-append P (term_names lo) (term_names hi ++ free) parts.low
+    (All-append P (term_names hi) free parts.high (All-filter (λ o. not (is_number y o)) P (form_names f) parts.body))) h
 
 facts-stay : (v : Interpretation) (x : Sym) (n : ℤ) (facts : List Fact) → list_any (occurs_in_fact x) facts ≡ false → All (FactAt v) facts → All (FactAt (with_value v x n)) facts
 facts-stay v x n [] none h = All-nil (FactAt (with_value v x n))
@@ -123,14 +135,13 @@ denied-at : (v : Interpretation) (z x : Sym) (lo hi : TermTree) (f : FormTree) (
 denied-at v z x lo hi f n none from to is =
     let w : Interpretation = with_value v z n in
     let P = AgreesAt v w in
-    let all = names-agree v z n (term_names lo ++ (term_names hi ++ form_names f)) (or_right (same_sym z x) (occurs_among z (term_names lo ++ (term_names hi ++ form_names f))) none) in
-    let rest = All-right P (term_names lo) (term_names hi ++ form_names f) all in
-    let low : term_at w lo ≡ term_at v lo = sym (term_at-agree v w lo (All-left P (term_names lo) (term_names hi ++ form_names f) all)) in
-    let high : term_at w hi ≡ term_at v hi = sym (term_at-agree v w hi (All-left P (term_names hi) (form_names f) rest)) in
+    let parts = parts-agree v z n x lo hi f none in
+    let low : term_at w lo ≡ term_at v lo = sym (term_at-agree v w lo parts.low) in
+    let high : term_at w hi ≡ term_at v hi = sym (term_at-agree v w hi parts.high) in
     let body : form_at w (replaced_form (number_by x (name z)) f) ≡ form_at (with_value v x n) f =
     form_at-number_by x (name z) w f ∙ ap (λ k. form_at (with_value w x k) f) (own-value v z n)
     ∙ sym (form_at-agree (with_value v x n) (with_value w x n) f
-    (All-weaker P (AgreesAt (with_value v x n) (with_value w x n)) (λ o same. AgreesAt-both v w x n o (λ e. same)) (form_names f) (All-right P (term_names hi) (form_names f) rest))) in
+    (All-weaker P (AgreesAt (with_value v x n) (with_value w x n)) (λ o same. AgreesAt-both v w x n o (λ e. same)) (form_names f) parts.body)) in
     (low-test (term_at w lo) (w.value z) n (subst (λ a. a ≤ℤ n) (sym low) from) (own-value v z n),
     high-test (w.value z) (term_at w hi) n (subst (λ b. n <ℤ b) (sym high) to) (own-value v z n),
     ap not (body ∙ is))

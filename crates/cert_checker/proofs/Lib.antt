@@ -7,8 +7,6 @@ pub mod QuotientLaws
 pub mod RoundingLaws
 pub mod PlaceLaws
 pub mod RuleLaws
-pub mod NameLaws
-pub mod ReplacingLaws
 pub mod CheckLaws
 pub mod NumberingLaws
 pub mod SizeLaws

@@ -8,7 +8,7 @@ use Rattle.terms.specs.Trees.{TermTree, number, name, plus, FormTree, at_most, d
 use Rattle.terms.specs.declared.fact.Fact.TheVariants as fact
 use Rattle.terms.specs.Replacing.{number_by, replaced_form}
 use Rattle.cert_checker.specs.Rules.{one, children}
-use Rattle.cert_checker.specs.Occurrences.{occurs_in_sequent}
+use Rattle.terms.specs.Names.{occurs_in_sequent}
 use Rattle.terms.specs.declared.sequent.Sequent.{Sequent}
 use Rattle.cert_form.specs.declared.cert.Rule.{Rule}
 use Rattle.cert_form.specs.declared.cert.Cert.{Cert}

@@ -3,7 +3,6 @@ pub mod Rows
 pub mod Worth
 pub mod Places
 pub mod Rules
-pub mod Occurrences
 pub mod Numbering
 pub mod Fails
 pub mod Checks
