@@ -14,3 +14,4 @@ pub mod PlaceInAtoms
 pub mod StepLaws
 pub mod GoalLaws
 pub mod RunLaws
+pub mod GrownLaws

@@ -135,3 +135,7 @@ popped old new x e = ap reverse e ∙ reverse-append new (x ∷ [])
 pub fails-alike : (goal : Goal) (fail : RowFail) (steps : List Step) (rows : List Row) (atoms : List TermTree) → GoesOn goal (Err fail) steps rows atoms → Makes goal (Err fail) atoms
 fails-alike goal Wide steps rows atoms h = h
 fails-alike goal NoMemory steps rows atoms h = tt
+
+pub fails-same : (goal : Goal) (fail : RowFail) (steps more : List Step) (rows done : List Row) (atoms numbered : List TermTree) → GoesOn goal (Err fail) steps rows atoms → GoesOn goal (Err fail) more done numbered
+fails-same goal Wide steps more rows done atoms numbered h = h
+fails-same goal NoMemory steps more rows done atoms numbered h = tt

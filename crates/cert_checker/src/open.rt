@@ -79,6 +79,7 @@ fn push_atom(
     ensures row { OnOk result (reverse rows.new.items
         ≡ atom_row (atom_number (with_atom atoms.old.items term.now) term.now) ∷ reverse rows.old.items) }
     ensures atom { OnOk result (atoms.new.items ≡ with_atom atoms.old.items term.now) }
+    ensures grown { Grown atoms.old.items atoms.new.items }
     ensures memory { IfErr result (λ fail. fail ≡ RowFail.NoMemory) }
 {
     let Ok(number) = number(alloc, atoms, term) else {
@@ -101,9 +102,10 @@ fn open_product<'a>(
     rows: &mut Vec<Row>,
     atoms: &mut Vec<Term>,
 ) -> Result<(), RowFail>
-    ensures { IsOpened (product_shape (literal_of left.entry) (literal_of right.entry) left.entry right.entry) term.now
+    ensures opened { IsOpened (product_shape (literal_of left.entry) (literal_of right.entry) left.entry right.entry) term.now
         (reverse steps.old.items) (reverse rows.old.items) atoms.old.items result
         (reverse steps.new.items) (reverse rows.new.items) atoms.new.items }
+    ensures grown { Grown atoms.old.items atoms.new.items }
 {
     if let Some(times) = literal(&left) {
         return open_multiple(alloc, times, right, steps);
@@ -139,9 +141,10 @@ pub(crate) fn open<'a>(
     rows: &mut Vec<Row>,
     atoms: &mut Vec<Term>,
 ) -> Result<(), RowFail>
-    ensures { IsOpened (shape_of term.entry) term.entry
+    ensures opened { IsOpened (shape_of term.entry) term.entry
         (reverse steps.old.items) (reverse rows.old.items) atoms.old.items result
         (reverse steps.new.items) (reverse rows.new.items) atoms.new.items }
+    ensures grown { Grown atoms.old.items atoms.new.items }
 {
     match term.view() {
         TermView::Num(number) => push_row(rows, number_row(alloc, number)),

@@ -1,7 +1,7 @@
 ghost use Rattle.std.specs.Prelude.{◌≡◌, ◌≤◌, ◌<◌, true, reverse, length, ◌∷◌, [], OnOk};
 ghost use Rattle.std.specs.List.{list_all};
 ghost use Rattle.linear_rows.specs.Sums.{row_fits};
-ghost use Rattle.cert_checker.specs.Code.Steps.{work, Goal, ComesTo, GoesOn, HasOperands, HasGoal, Makes};
+ghost use Rattle.cert_checker.specs.Code.Steps.{work, Goal, ComesTo, GoesOn, HasOperands, HasGoal, Makes, Grown};
 
 use crate::open::open;
 use crate::step::Step;
@@ -21,6 +21,7 @@ fn take<'a>(
     requires fit { list_all row_fits rows.old.items ≡ true }
     ensures goes_on { (goal : Goal) → ComesTo goal (next.entry ∷ reverse steps.old.items) (reverse rows.old.items) atoms.old.items →
         GoesOn goal result (reverse steps.new.items) (reverse rows.new.items) atoms.new.items }
+    ensures grown { Grown atoms.old.items atoms.new.items }
     ensures smaller { OnOk result (work (reverse steps.new.items) < work (next.entry ∷ reverse steps.old.items)) }
 {
     match next {
@@ -37,11 +38,14 @@ fn run<'a>(
     atoms: &mut Vec<Term>,
 ) -> Result<(), RowFail>
     requires { HasGoal (reverse steps.old.items) (reverse rows.old.items) atoms.old.items }
-    ensures { (goal : Goal) → ComesTo goal (reverse steps.old.items) (reverse rows.old.items) atoms.old.items →
+    ensures goes_on { (goal : Goal) → ComesTo goal (reverse steps.old.items) (reverse rows.old.items) atoms.old.items →
         GoesOn goal result [] (reverse rows.new.items) atoms.new.items }
+    ensures grown { Grown atoms.old.items atoms.new.items }
 {
     while let Some(next) = steps.pop() {
-        take(alloc, next, steps, rows, atoms)?;
+        if let Err(fail) = take(alloc, next, steps, rows, atoms) {
+            return Err(fail);
+        }
     }
     Ok(())
 }
@@ -53,7 +57,8 @@ pub(crate) fn made<'a>(
     atoms: &mut Vec<Term>,
 ) -> Result<Row, RowFail>
     requires { HasGoal (reverse steps.items) [] atoms.old.items }
-    ensures { (goal : Goal) → ComesTo goal (reverse steps.entry.items) [] atoms.old.items → Makes goal result atoms.new.items }
+    ensures makes { (goal : Goal) → ComesTo goal (reverse steps.entry.items) [] atoms.old.items → Makes goal result atoms.new.items }
+    ensures grown { Grown atoms.old.items atoms.new.items }
 {
     let mut rows = Vec::new(alloc);
     if let Err(fail) = run(alloc, &mut steps, &mut rows, atoms) {
