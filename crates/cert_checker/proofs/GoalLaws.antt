@@ -65,11 +65,11 @@ small_by (a_difference t u) w = sum_is_small (difference (sum_of t) (sum_of u)) 
 small_by (a_multiple z t) w = sum_is_small (scaled_sum z (sum_of t)) && (sum_is_small (number_sum z) && terms_small t)
 small_by an_atom t = sum_is_small (atom_sum t)
 
-and-true : (a : Bool) → (a && true) ≡ a
+pub and-true : (a : Bool) → (a && true) ≡ a
 and-true true = refl
 and-true false = refl
 
-and-turn : (a b : Bool) → (a && b) ≡ (b && a)
+pub and-turn : (a b : Bool) → (a && b) ≡ (b && a)
 and-turn true b = sym (and-true b)
 and-turn false true = refl
 and-turn false false = refl

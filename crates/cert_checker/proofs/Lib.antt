@@ -15,3 +15,4 @@ pub mod StepLaws
 pub mod GoalLaws
 pub mod RunLaws
 pub mod GrownLaws
+pub mod ComparisonLaws

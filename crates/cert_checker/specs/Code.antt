@@ -1,3 +1,4 @@
 -- Definitions that mirror the code.
 pub mod SumRows
 pub mod Steps
+pub mod Comparisons

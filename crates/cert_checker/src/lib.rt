@@ -4,6 +4,7 @@
 mod atoms;
 mod laws;
 mod open;
+mod row;
 mod run;
 mod step;
 mod sum;

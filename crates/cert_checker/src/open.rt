@@ -25,7 +25,7 @@ fn push_step<'a>(steps: &mut Vec<Step<'a>>, next: Step<'a>) -> Result<(), RowFai
 }
 
 /// Two terms, and an operation on their rows.
-fn push_operands<'a>(
+pub(crate) fn push_operands<'a>(
     steps: &mut Vec<Step<'a>>,
     left: TermRef<'a>,
     right: TermRef<'a>,
