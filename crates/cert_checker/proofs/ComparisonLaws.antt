@@ -1,6 +1,6 @@
 -- The rows of comparisons.
 use Rattle.std.proofs.Common.{◌≡◌, ◌∙◌, ℕ, zero, suc, ℤ, pos, negsuc, neg_ℤ, ◌+ℤ◌, Bool, true, false, ◌&&◌, List, [], ◌∷◌, ◌++◌, reverse, Option, Some, None, Result, Ok, Err, ap, ap₂, sym, subst, refl}
-use Rattle.std.specs.Prelude.{unsigned_abs, option_map}
+use Rattle.std.specs.Prelude.{unsigned_abs, option_and_then, is_some, if◌then◌else◌}
 use Rattle.std.specs.List.{list_all}
 use Rattle.std.proofs.lemmas.List.{append-nil}
 use Rattle.std.proofs.lemmas.List.Folds.{list_all-append}
@@ -19,7 +19,7 @@ use Rattle.cert_checker.specs.declared.step.Step.TheVariants as step
 use Rattle.cert_checker.specs.declared.step.Operation.{Operation}
 use Rattle.cert_checker.specs.Linear.{Multiple, Sum, scaled_multiples, difference, sum_of, sum_is_small, are_small, linear_terms}
 use Rattle.cert_checker.specs.Rows.{Line, line_is_small, line_of, linear_terms_of, has_small_numbers, row_of}
-use Rattle.cert_checker.specs.Numbering.{with_atoms, IsRow}
+use Rattle.cert_checker.specs.Numbering.{with_atoms, IsRow, IsRowOf}
 use Rattle.cert_checker.specs.Code.Steps.{turned, sum_after, are_small_after, atoms_after, Goal, ComesTo, HasGoal, IsMade, Makes}
 use Rattle.cert_checker.specs.Code.Comparisons.{comparison_of, denied_comparison, operation_of, compared_sum, line_by, line_in, terms_are_small, is_small_comparison, IsCompared, is_equality, at_zero, steps_of}
 use Rattle.cert_checker.proofs.Choices.{and_left, and_right, and_true}
@@ -108,3 +108,36 @@ compared-fails c old new NoMemory h = tt
 
 pub steps-are : (c : Comparison) (steps items : List Step) (o : Operation) → steps ≡ step.Term c.left ∷ (step.Term c.right ∷ (step.Apply o ∷ reverse items)) → o ≡ operation_of c.relation → items ≡ [] → steps ≡ steps_of c
 steps-are c steps items o e same none = e ∙ ap₂ (λ p l. step.Term c.left ∷ (step.Term c.right ∷ (step.Apply p ∷ reverse l))) same none
+
+-- ---- the row of a form
+
+record SaysLine (f : FormTree) (c : Comparison) : Type 0 where
+  line : line_of f ≡ Some (line_in c)
+  small : has_small_numbers f (line_in c) ≡ is_small_comparison c
+
+abbrev TellsLine : FormTree → Option Comparison → Type 0
+TellsLine f None = line_of f ≡ None
+TellsLine f (Some c) = SaysLine f c
+
+tells : (f : FormTree) → TellsLine f (comparison_of f)
+tells (at_most t u) = record { line = refl; small = refl }
+tells (equal t u) = record { line = refl; small = refl }
+tells (denied (at_most t u)) = record { line = refl; small = refl }
+tells (denied f) = refl
+tells f = refl
+
+row-kept : (f : FormTree) (line : Line) → line_of f ≡ Some line → has_small_numbers f line ≡ true → row_of f ≡ Some line
+row-kept f line e h = ap (λ o. option_and_then (λ l. if has_small_numbers f l then Some l else None) o) e ∙ ap (λ b. if b then Some line else None) h
+
+row-lost : (f : FormTree) (line : Line) → line_of f ≡ Some line → has_small_numbers f line ≡ false → row_of f ≡ None
+row-lost f line e h = ap (λ o. option_and_then (λ l. if has_small_numbers f l then Some l else None) o) e ∙ ap (λ b. if b then Some line else None) h
+
+pub no-row : (f : FormTree) → None ≡ comparison_of f → line_of f ≡ None
+no-row f e = subst (TellsLine f) (sym e) (tells f)
+
+pub form-row : (f : FormTree) (c : Comparison) (old new : List TermTree) (row : Row) → Some c ≡ comparison_of f → IsCompared c old (Ok row) new → IsRowOf f old (Ok (Some row)) new
+form-row f c old new row e h = let says : SaysLine f c = subst (TellsLine f) (sym e) (tells f) in (line_in c, row-kept f (line_in c) says.line (says.small ∙ h.1), h.0, h.2)
+
+pub form-fails : (f : FormTree) (c : Comparison) (old new kept : List TermTree) (fail : RowFail) → Some c ≡ comparison_of f → IsCompared c old (Err fail) new → kept ≡ old → IsRowOf f old (Err fail) kept
+form-fails f c old new kept Wide e h same = let says : SaysLine f c = subst (TellsLine f) (sym e) (tells f) in (ap is_some says.line, row-lost f (line_in c) says.line (says.small ∙ h), same)
+form-fails f c old new kept NoMemory e h same = same

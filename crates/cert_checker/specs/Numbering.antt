@@ -1,12 +1,14 @@
 -- Rows over numbered atoms.
-use Rattle.std.specs.Prelude.{◌≡◌, ℕ, ℤ, Bool, true, if◌then◌else◌, List, [], ◌∷◌, ◌++◌}
+use Rattle.std.specs.Prelude.{◌≡◌, ℕ, ℤ, Bool, true, if◌then◌else◌, List, [], ◌∷◌, ◌++◌, Option, Some, None, is_some, Result, Ok, Err}
 use Rattle.std.specs.List.{list_any, list_all, position_or_len}
 use Rattle.linear_rows.specs.declared.row.Row.{Row}
+use Rattle.linear_rows.specs.declared.row.RowFail.{RowFail}
+use Rattle.linear_rows.specs.declared.row.RowFail.TheVariants.{NoMemory, Wide}
 use Rattle.linear_rows.specs.Sums.{IsInForm, row_fits, dot}
 use Rattle.terms.specs.Equality.{same_term}
-use Rattle.terms.specs.Trees.{TermTree}
+use Rattle.terms.specs.Trees.{TermTree, FormTree}
 use Rattle.cert_checker.specs.Linear.{Multiple}
-use Rattle.cert_checker.specs.Rows.{Line}
+use Rattle.cert_checker.specs.Rows.{Line, line_of, row_of}
 use Rattle.cert_checker.specs.Worth.{weighed}
 
 -- the number of an atom: its first place
@@ -36,3 +38,10 @@ pub record IsRow (atoms : List TermTree) (line : Line) (row : Row) : Type 0 wher
   pub parts : (point : ℕ → ℤ) → dot point row.parts ≡ at_point point atoms line.multiples
   pub bound : row.bound ≡ line.bound
   pub equal : row.equal ≡ line.is_equality
+
+-- The row of a form over atoms, to which its new ones are added in the order of their first places.
+abbrev pub IsRowOf : FormTree → List TermTree → Result (Option Row) RowFail → List TermTree → Type 0
+IsRowOf f old (Ok None) new = (line_of f ≡ None) × (new ≡ old)
+IsRowOf f old (Ok (Some row)) new = (line : Line) × (row_of f ≡ Some line) × IsRow new line row × (new ≡ with_atoms old line.multiples)
+IsRowOf f old (Err Wide) new = (is_some (line_of f) ≡ true) × (row_of f ≡ None) × (new ≡ old)
+IsRowOf f old (Err NoMemory) new = new ≡ old

@@ -1,5 +1,6 @@
 ghost use Rattle.std.specs.Prelude.{◌≡◌, true};
 ghost use Rattle.linear_rows.specs.Sums.{row_fits};
+ghost use Rattle.cert_checker.specs.Numbering.{IsRowOf};
 ghost use Rattle.cert_checker.specs.Code.Comparisons.{comparison_of, denied_comparison, operation_of, is_equality, at_zero, IsCompared};
 ghost use Rattle.cert_checker.specs.Code.Steps.{Grown, HasGoal};
 
@@ -120,5 +121,26 @@ fn compared<'a>(
     match made(alloc, steps, atoms) {
         Ok(sum) => Ok(at_zero(sum, relation.is_equality())),
         Err(fail) => Err(fail),
+    }
+}
+
+/// The row of a form. After an error the atoms are as before.
+pub(crate) fn form_row(
+    alloc: Global,
+    form: FormRef<'_>,
+    atoms: &mut Vec<Term>,
+) -> Result<Option<Row>, RowFail>
+    ensures { IsRowOf form.entry atoms.old.items result atoms.new.items }
+{
+    let Some(terms) = compared_terms(form) else {
+        return Ok(None);
+    };
+    let count = atoms.len();
+    match compared(alloc, terms, atoms) {
+        Ok(row) => Ok(Some(row)),
+        Err(fail) => {
+            atoms.truncate(count);
+            Err(fail)
+        }
     }
 }
