@@ -16,3 +16,4 @@ pub mod GoalLaws
 pub mod RunLaws
 pub mod GrownLaws
 pub mod ComparisonLaws
+pub mod DistinctLaws

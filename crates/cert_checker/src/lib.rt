@@ -9,4 +9,5 @@ mod run;
 mod step;
 mod sum;
 
+pub use atoms::{Atoms, row_of};
 pub use laws::{checked_is_valid, row_is_true, rule_is_sound, rules_follow};
