@@ -2,3 +2,4 @@
 pub mod SumRows
 pub mod Steps
 pub mod Comparisons
+pub mod Combined
