@@ -6,6 +6,7 @@ ghost use Rattle.c_lang.specs.Names.{is_digit as digit, is_letter as letter};
 ghost use Rattle.c_lexer.specs.Code.Reading.{is_in as in_class};
 ghost use Rattle.c_grammar.specs.Bytes.{is_white as white};
 
+/// A class of bytes.
 #[derive(Clone, Copy)]
 pub enum Class {
     Digit,
@@ -20,24 +21,28 @@ pub enum Class {
     Space,
 }
 
+/// Whether the byte is a digit.
 pub fn is_digit(byte: u8) -> bool
     ensures { result ≡ digit byte }
 {
     b'0' <= byte && byte <= b'9'
 }
 
+/// Whether the byte is a letter or `_`.
 pub fn is_letter(byte: u8) -> bool
     ensures { result ≡ letter byte }
 {
     (b'a' <= byte && byte <= b'z') || (b'A' <= byte && byte <= b'Z') || byte == b'_'
 }
 
+/// Whether the byte is white space.
 pub fn is_white(byte: u8) -> bool
     ensures { result ≡ white byte }
 {
     byte == b' ' || (b'\t' <= byte && byte <= b'\r')
 }
 
+/// Whether the byte is of the class.
 pub fn is_in(class: Class, byte: u8) -> bool
     ensures { result ≡ in_class class byte }
 {

@@ -2,7 +2,7 @@
 //! are is said in `specs/`, by cases on the bytes.
 #![tactic(auto)]
 
-mod bytes;
+pub mod bytes;
 mod directive;
 pub mod keyword;
 mod lexer;

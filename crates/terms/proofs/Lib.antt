@@ -7,3 +7,4 @@ pub mod FreeLaws
 pub mod KeptLaws
 pub mod ValueLaws
 pub mod OccurrenceLaws
+pub mod SizeLaws

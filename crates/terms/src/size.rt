@@ -20,3 +20,25 @@ impl Fact {
         }
     }
 }
+
+// The sum of the sizes of facts. It stands still at 2^64 - 1.
+fn facts_size(facts: &[Fact]) -> usize
+    ensures { result ≡ min (facts_size facts.now) (2 ^ 64 - 1) }
+{
+    let mut total: usize = 0;
+    for fact in facts {
+        total = total.saturating_add(fact.size());
+    }
+    total
+}
+
+impl Sequent {
+    /// How many facts, forms, terms and arrays the sequent has. It stands still at 2^64 - 1. It takes no
+    /// memory.
+    #[tactic(auto, using(crate::proofs::SizeLaws::totals))]
+    pub fn size(&self) -> usize
+        ensures { result ≡ min (sequent_size self.now) (2 ^ 64 - 1) }
+    {
+        facts_size(self.hyps.as_slice()).saturating_add(self.goal.size())
+    }
+}
