@@ -3,3 +3,5 @@ pub mod SumRows
 pub mod Steps
 pub mod Comparisons
 pub mod Combined
+pub mod Parts
+pub mod Exchanging

@@ -5,6 +5,7 @@ mod atoms;
 mod combination;
 mod laws;
 mod open;
+mod part;
 mod row;
 mod run;
 mod step;
