@@ -1,5 +1,5 @@
 -- Opening a part leaves what is made unchanged, and less to do.
-use Rattle.std.proofs.Common.{◌≡◌, ◌∙◌, ℕ, ◌+◌, ◌*◌, ◌<◌, Bool, true, false, if◌then◌else◌, List, [], ◌∷◌, ◌++◌, ap, sym, refl, arith}
+use Rattle.std.proofs.Common.{◌≡◌, ◌∙◌, ℕ, ◌+◌, ◌*◌, ◌<◌, Bool, true, false, if◌then◌else◌, List, [], ◌∷◌, ◌++◌, ap, sym, refl, subst, arith, Result, Ok, Err, OnOk}
 use Rattle.std.proofs.lemmas.List.{append-nil}
 use Rattle.terms.specs.declared.node.Node.{Node}
 use Rattle.terms.specs.Trees.{TermTree, number, name, plus, minus, times, divided, remainder, read, truth, ArrayTree, array, stored, FormTree, always, never, at_most, equal, denied, both, either}
@@ -128,3 +128,47 @@ form_less (equal t u) parts = less-two (term_size t) (term_size u) (parts_work p
 form_less (both f g) parts = less-two (form_size f) (form_size g) (parts_work parts)
 form_less (either f g) parts = less-two (form_size f) (form_size g) (parts_work parts)
 form_less (denied f) parts = less-one (form_size f) (parts_work parts)
+
+-- ---- answers
+
+pub on-one : {T E : Type 0} {A B : Type 0} (r : Result T E) → OnOk r A → (A → B) → OnOk r B
+on-one (Ok x) h f = f h
+on-one (Err e) h f = tt
+
+pub on-both : {T E : Type 0} {A B C : Type 0} (r : Result T E) → OnOk r A → OnOk r B → (A → B → C) → OnOk r C
+on-both (Ok x) h k f = f h k
+on-both (Err e) h k f = tt
+
+module _ (a b : TermTree) where
+  pub term_left : (t : TermTree) (parts more : List Part) (done made : List Node) → same_term a t ≡ false
+      → more ≡ opened_term t ++ parts → made ≡ done ++ leaf_of_term t → exchanged_after a b more made ≡ exchanged_after a b (part.Term t ∷ parts) done
+  term_left t parts more done made other e f = (λ i. exchanged_after a b (e i) (f i)) ∙ term_opened a b t parts done other
+
+  pub array_left : (r : ArrayTree) (parts more : List Part) (done made : List Node)
+      → more ≡ opened_array r ++ parts → made ≡ done ++ leaf_of_array r → exchanged_after a b more made ≡ exchanged_after a b (part.Array r ∷ parts) done
+  array_left r parts more done made e f = (λ i. exchanged_after a b (e i) (f i)) ∙ array_opened a b r parts done
+
+  pub form_left : (g : FormTree) (parts more : List Part) (done made : List Node)
+      → more ≡ opened_form g ++ parts → made ≡ done ++ leaf_of_form g → exchanged_after a b more made ≡ exchanged_after a b (part.Form g ∷ parts) done
+  form_left g parts more done made e f = (λ i. exchanged_after a b (e i) (f i)) ∙ form_opened a b g parts done
+
+pub fewer : (n m w : ℕ) → n ≡ m → m < w → n < w
+fewer n m w e h = subst (λ k. k < w) (sym e) h
+
+some-more : (n w : ℕ) → 0 < n → w < 2 * n + w
+some-more n w h = omega arith
+
+-- a term counts for something
+term-up : (t : TermTree) → 0 < term_size t
+term-up (number z) = size-up 0
+term-up (name x) = size-up 0
+term-up (plus t u) = size-up (term_size t + term_size u)
+term-up (minus t u) = size-up (term_size t + term_size u)
+term-up (times t u) = size-up (term_size t + term_size u)
+term-up (divided t u) = size-up (term_size t + term_size u)
+term-up (remainder t u) = size-up (term_size t + term_size u)
+term-up (read r i) = size-up (array_size r + term_size i)
+term-up (truth f) = size-up (form_size f)
+
+pub term_some : (t : TermTree) (parts : List Part) → parts_work parts < parts_work (part.Term t ∷ parts)
+term_some t parts = some-more (term_size t) (parts_work parts) (term-up t)

@@ -3,6 +3,7 @@
 
 mod atoms;
 mod combination;
+mod exchange;
 mod laws;
 mod open;
 mod part;
