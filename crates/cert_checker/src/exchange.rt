@@ -5,7 +5,7 @@ ghost use Rattle.cert_checker.specs.declared.part.Part.TheVariants as part;
 ghost use Rattle.cert_checker.specs.Places.{exchanged_form};
 ghost use Rattle.cert_checker.specs.Code.Exchanging.{exchanged_after, parts_work};
 
-use crate::part::{Part, open_array, open_form, open_term};
+use crate::part::{Part, take_array, take_form, take_term};
 use std::alloc::{AllocError, Global};
 use terms::build::{put_copies, put_operator};
 use terms::{Form, Node, Term, TermRef};
@@ -27,7 +27,7 @@ fn exchange_term<'a>(
     if from.nodes() == term.nodes() {
         return put_copies(alloc, out, to.nodes());
     }
-    open_term(alloc, term, parts, out)
+    take_term(alloc, term, parts, out)
 }
 
 fn exchange_part<'a>(
@@ -46,8 +46,8 @@ fn exchange_part<'a>(
 {
     match next {
         Part::Term(term) => exchange_term(alloc, from, to, term, parts, out),
-        Part::Array(array) => open_array(alloc, array, parts, out),
-        Part::Form(form) => open_form(alloc, form, parts, out),
+        Part::Array(array) => take_array(alloc, array, parts, out),
+        Part::Form(form) => take_form(alloc, form, parts, out),
         Part::Operator(kind) => put_operator(out, kind),
     }
 }

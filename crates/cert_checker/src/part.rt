@@ -52,19 +52,16 @@ fn push_two<'a>(
     push_part(parts, left)
 }
 
-/// A term's parts, and its operator; or the term itself, where it has no parts.
+/// A term's parts, and its operator.
 pub(crate) fn open_term<'a>(
-    alloc: Global,
     term: TermRef<'a>,
     parts: &mut Vec<Part<'a>>,
-    out: &mut Vec<Node>,
 ) -> Result<(), AllocError>
-    ensures parts { OnOk result (reverse parts.new.items ≡ opened_term term.entry ++ reverse parts.old.items) }
-    ensures leaf { OnOk result (out.new.items ≡ out.old.items ++ leaf_of_term term.entry) }
+    ensures { OnOk result (reverse parts.new.items ≡ opened_term term.entry ++ reverse parts.old.items) }
 {
     match term.view() {
-        TermView::Num(_) => put_copies(alloc, out, term.nodes()),
-        TermView::Of(_) => put_copies(alloc, out, term.nodes()),
+        TermView::Num(_) => Ok(()),
+        TermView::Of(_) => Ok(()),
         TermView::Add(left, right) => push_two(parts, NodeKind::Add, Part::Term(left), Part::Term(right)),
         TermView::Sub(left, right) => push_two(parts, NodeKind::Sub, Part::Term(left), Part::Term(right)),
         TermView::Mul(left, right) => push_two(parts, NodeKind::Mul, Part::Term(left), Part::Term(right)),
@@ -75,8 +72,110 @@ pub(crate) fn open_term<'a>(
     }
 }
 
-/// An array's parts, and its operator; or the array itself, where it has no parts.
+/// An array's parts, and its operator.
 pub(crate) fn open_array<'a>(
+    array: ArrayRef<'a>,
+    parts: &mut Vec<Part<'a>>,
+) -> Result<(), AllocError>
+    ensures { OnOk result (reverse parts.new.items ≡ opened_array array.entry ++ reverse parts.old.items) }
+{
+    match array.view() {
+        ArrayView::Base(_) => Ok(()),
+        ArrayView::Store(inner, index, value) => {
+            push_two(parts, NodeKind::Store, Part::Term(index), Part::Term(value))?;
+            push_part(parts, Part::Array(inner))
+        }
+    }
+}
+
+/// A form's parts, and its operator.
+pub(crate) fn open_form<'a>(
+    form: FormRef<'a>,
+    parts: &mut Vec<Part<'a>>,
+) -> Result<(), AllocError>
+    ensures { OnOk result (reverse parts.new.items ≡ opened_form form.entry ++ reverse parts.old.items) }
+{
+    match form.view() {
+        FormView::True => Ok(()),
+        FormView::False => Ok(()),
+        FormView::Le(left, right) => push_two(parts, NodeKind::Le, Part::Term(left), Part::Term(right)),
+        FormView::Eq(left, right) => push_two(parts, NodeKind::Eq, Part::Term(left), Part::Term(right)),
+        FormView::And(left, right) => push_two(parts, NodeKind::And, Part::Form(left), Part::Form(right)),
+        FormView::Or(left, right) => push_two(parts, NodeKind::Or, Part::Form(left), Part::Form(right)),
+        FormView::Not(form) => push_one(parts, NodeKind::Not, Part::Form(form)),
+    }
+}
+
+/// Puts a term that has no parts.
+pub(crate) fn put_leaf_term(
+    alloc: Global,
+    term: &TermRef<'_>,
+    out: &mut Vec<Node>,
+) -> Result<(), AllocError>
+    ensures { OnOk result (out.new.items ≡ out.old.items ++ leaf_of_term term.now) }
+{
+    match term.view() {
+        TermView::Num(_) => put_copies(alloc, out, term.nodes()),
+        TermView::Of(_) => put_copies(alloc, out, term.nodes()),
+        TermView::Add(_, _) => Ok(()),
+        TermView::Sub(_, _) => Ok(()),
+        TermView::Mul(_, _) => Ok(()),
+        TermView::Div(_, _) => Ok(()),
+        TermView::Rem(_, _) => Ok(()),
+        TermView::Read(_, _) => Ok(()),
+        TermView::Truth(_) => Ok(()),
+    }
+}
+
+/// Puts an array that has no parts.
+pub(crate) fn put_leaf_array(
+    alloc: Global,
+    array: &ArrayRef<'_>,
+    out: &mut Vec<Node>,
+) -> Result<(), AllocError>
+    ensures { OnOk result (out.new.items ≡ out.old.items ++ leaf_of_array array.now) }
+{
+    match array.view() {
+        ArrayView::Base(_) => put_copies(alloc, out, array.nodes()),
+        ArrayView::Store(_, _, _) => Ok(()),
+    }
+}
+
+/// Puts a form that has no parts.
+pub(crate) fn put_leaf_form(
+    alloc: Global,
+    form: &FormRef<'_>,
+    out: &mut Vec<Node>,
+) -> Result<(), AllocError>
+    ensures { OnOk result (out.new.items ≡ out.old.items ++ leaf_of_form form.now) }
+{
+    match form.view() {
+        FormView::True => put_copies(alloc, out, form.nodes()),
+        FormView::False => put_copies(alloc, out, form.nodes()),
+        FormView::Le(_, _) => Ok(()),
+        FormView::Eq(_, _) => Ok(()),
+        FormView::And(_, _) => Ok(()),
+        FormView::Or(_, _) => Ok(()),
+        FormView::Not(_) => Ok(()),
+    }
+}
+
+/// A term's parts, and its operator; or the term itself, where it has no parts.
+pub(crate) fn take_term<'a>(
+    alloc: Global,
+    term: TermRef<'a>,
+    parts: &mut Vec<Part<'a>>,
+    out: &mut Vec<Node>,
+) -> Result<(), AllocError>
+    ensures parts { OnOk result (reverse parts.new.items ≡ opened_term term.entry ++ reverse parts.old.items) }
+    ensures leaf { OnOk result (out.new.items ≡ out.old.items ++ leaf_of_term term.entry) }
+{
+    put_leaf_term(alloc, &term, out)?;
+    open_term(term, parts)
+}
+
+/// An array's parts, and its operator; or the array itself, where it has no parts.
+pub(crate) fn take_array<'a>(
     alloc: Global,
     array: ArrayRef<'a>,
     parts: &mut Vec<Part<'a>>,
@@ -85,17 +184,12 @@ pub(crate) fn open_array<'a>(
     ensures parts { OnOk result (reverse parts.new.items ≡ opened_array array.entry ++ reverse parts.old.items) }
     ensures leaf { OnOk result (out.new.items ≡ out.old.items ++ leaf_of_array array.entry) }
 {
-    match array.view() {
-        ArrayView::Base(_) => put_copies(alloc, out, array.nodes()),
-        ArrayView::Store(inner, index, value) => {
-            push_two(parts, NodeKind::Store, Part::Term(index), Part::Term(value))?;
-            push_part(parts, Part::Array(inner))
-        }
-    }
+    put_leaf_array(alloc, &array, out)?;
+    open_array(array, parts)
 }
 
 /// A form's parts, and its operator; or the form itself, where it has no parts.
-pub(crate) fn open_form<'a>(
+pub(crate) fn take_form<'a>(
     alloc: Global,
     form: FormRef<'a>,
     parts: &mut Vec<Part<'a>>,
@@ -104,13 +198,6 @@ pub(crate) fn open_form<'a>(
     ensures parts { OnOk result (reverse parts.new.items ≡ opened_form form.entry ++ reverse parts.old.items) }
     ensures leaf { OnOk result (out.new.items ≡ out.old.items ++ leaf_of_form form.entry) }
 {
-    match form.view() {
-        FormView::True => put_copies(alloc, out, form.nodes()),
-        FormView::False => put_copies(alloc, out, form.nodes()),
-        FormView::Le(left, right) => push_two(parts, NodeKind::Le, Part::Term(left), Part::Term(right)),
-        FormView::Eq(left, right) => push_two(parts, NodeKind::Eq, Part::Term(left), Part::Term(right)),
-        FormView::And(left, right) => push_two(parts, NodeKind::And, Part::Form(left), Part::Form(right)),
-        FormView::Or(left, right) => push_two(parts, NodeKind::Or, Part::Form(left), Part::Form(right)),
-        FormView::Not(form) => push_one(parts, NodeKind::Not, Part::Form(form)),
-    }
+    put_leaf_form(alloc, &form, out)?;
+    open_form(form, parts)
 }

@@ -19,10 +19,10 @@ returns-then-eq-clause-less c = on-one c.put_copies.result c.put_copies.ensures 
 pub returns-clause-made : goal.returns-clause-made
 returns-clause-made c =
     let other : same_term c.args.from.now c.args.term ≡ false = (λ i. pointwise same_node (sym c.nodes.ensures i) (sym c.nodes-2.ensures i)) ∙ sym c.eq.ensures ∙ c.if-eq.false in
-    on-both c.open_term.result c.open_term.ensures.parts c.open_term.ensures.leaf
-    (term_left c.args.from.now c.args.to.now c.args.term (reverse c.args.parts.now.items) (reverse c.open_term.new.parts.items) c.args.out.now.items c.open_term.new.out.items other)
+    on-both c.take_term.result c.take_term.ensures.parts c.take_term.ensures.leaf
+    (term_left c.args.from.now c.args.to.now c.args.term (reverse c.args.parts.now.items) (reverse c.take_term.new.parts.items) c.args.out.now.items c.take_term.new.out.items other)
 
 pub returns-clause-less : goal.returns-clause-less
-returns-clause-less c = on-one c.open_term.result c.open_term.ensures.parts
-    (λ e. fewer (parts_work (reverse c.open_term.new.parts.items)) (parts_work (opened_term c.args.term ++ reverse c.args.parts.now.items)) (parts_work (part.Term c.args.term ∷ reverse c.args.parts.now.items))
+returns-clause-less c = on-one c.take_term.result c.take_term.ensures.parts
+    (λ e. fewer (parts_work (reverse c.take_term.new.parts.items)) (parts_work (opened_term c.args.term ++ reverse c.args.parts.now.items)) (parts_work (part.Term c.args.term ∷ reverse c.args.parts.now.items))
     (ap parts_work e) (term_less c.args.term (reverse c.args.parts.now.items)))
