@@ -5,3 +5,4 @@ pub mod Comparisons
 pub mod Combined
 pub mod Parts
 pub mod Exchanging
+pub mod Finding

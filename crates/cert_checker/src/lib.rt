@@ -4,6 +4,7 @@
 mod atoms;
 mod combination;
 mod exchange;
+mod find;
 mod laws;
 mod open;
 mod part;
