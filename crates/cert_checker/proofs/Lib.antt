@@ -19,3 +19,4 @@ pub mod ComparisonLaws
 pub mod DistinctLaws
 pub mod ExchangeLaws
 pub mod FindLaws
+pub mod TruthLaws

@@ -6,3 +6,4 @@ pub mod Combined
 pub mod Parts
 pub mod Exchanging
 pub mod Finding
+pub mod Truths

@@ -44,7 +44,7 @@ abbrev mutual
   places_in_form (either f g) = within (λ h. either h g) (places_in_form f) ++ within (either f) (places_in_form g)
 
 -- the form of a `truth`, with the whole where another term stands in its place
-abbrev pub truth_at : Place FormTree → Option (FormTree × (TermTree → FormTree))
+abbrev pub truth_at : {Whole : Type 0} → Place Whole → Option (FormTree × (TermTree → Whole))
 truth_at (truth f, put) = Some (f, put)
 truth_at p = None
 
