@@ -1,11 +1,12 @@
 -- Opening a part leaves what is made unchanged, and what is made is the form with the number at that place.
-use Rattle.std.proofs.Common.{◌≡◌, ◌∙◌, Bool, true, false, ℕ, zero, suc, ◌+◌, ◌-◌, ◌≤◌, ℤ, List, [], ◌∷◌, ◌++◌, map, length, filter_map, slice_get, unwrap_or, Option, Some, None, ap, ap₂, sym, refl, subst, arith}
+use Rattle.std.proofs.Common.{◌≡◌, ◌∙◌, Bool, true, false, ℕ, zero, suc, ◌+◌, ◌-◌, ◌≤◌, ℤ, List, [], ◌∷◌, ◌++◌, map, length, filter_map, filter, slice_get, unwrap_or, Option, Some, None, ap, ap₂, sym, refl, subst, arith}
 use Rattle.std.specs.Option.{option_map}
 use Rattle.std.proofs.lemmas.List.{append-nil, length-append}
 use Rattle.std.proofs.lemmas.List.Elements.{filter_map-append}
 use Rattle.terms.specs.declared.node.Node.{Node}
 use Rattle.terms.specs.Trees.{TermTree, number, name, plus, minus, times, divided, remainder, read, truth, ArrayTree, array, stored, FormTree, always, never, at_most, equal, denied, both, either}
 use Rattle.terms.specs.Nodes.{term_nodes, array_nodes, form_nodes}
+use Rattle.terms.specs.Names.{terms_in_term, terms_in_array, terms_in_form}
 use Rattle.terms.proofs.OperatorLaws as op
 use Rattle.cert_checker.specs.declared.part.Part.{Part}
 use Rattle.cert_checker.specs.declared.part.Part.TheVariants as part
@@ -251,3 +252,156 @@ module _ (v : ℤ) {One Two Whole : Type 0} (make : One → Two → Whole) (firs
     hit = λ k q e. two-hit k q e (case (slice_get first k));
     miss = λ k e. two-miss k e (case (slice_get first k));
   }
+
+-- ---- every form
+
+map-lifted : {One Two Whole : Type 0} (g : Two → Whole) (h : One → Two) (xs : List (Found One)) → map (lifted g) (map (lifted h) xs) ≡ map (lifted (λ x. g (h x))) xs
+map-lifted g h [] = refl
+map-lifted g h (x ∷ xs) = ap (λ ys. lifted (λ y. g (h y)) x ∷ ys) (map-lifted g h xs)
+
+map-joined : {X Y : Type 0} (f : X → Y) (xs ys : List X) → map f (xs ++ ys) ≡ map f xs ++ map f ys
+map-joined f [] ys = refl
+map-joined f (x ∷ xs) ys = ap (λ zs. f x ∷ zs) (map-joined f xs ys)
+
+truths-two : {One Two Whole : Type 0} (make : One → Whole) (built : Two → Whole) (ps : List (Place One)) (qs : List (Place Two))
+    → map (lifted make) (truths ps) ++ map (lifted built) (truths qs) ≡ truths (within make ps ++ within built qs)
+truths-two make built ps qs =
+    ap₂ (λ xs ys. xs ++ ys) (sym (truths-within make ps)) (sym (truths-within built qs)) ∙ sym (filter_map-append truth_at (within make ps) (within built qs))
+
+module _ (v : ℤ) (f : FormTree) (found : List (Found FormTree)) (put : Putting FormTree) (follows : Follows v found f put) where
+  truth-hit : (k : ℕ) (q : Found TermTree) → slice_get ((f, λ t. t) ∷ map (lifted truth) found) k ≡ Some q → in_truth v put (Some k) ≡ (q.1 (number v), None)
+  truth-hit zero q e = ap (λ (r : Found TermTree). (r.1 (number v), None)) (some-is (f, λ t. t) q e)
+  truth-hit (suc k) q e = one-hit v truth found f put follows k q e (case (slice_get found k))
+
+  truth-miss : (k : ℕ) → slice_get ((f, λ t. t) ∷ map (lifted truth) found) k ≡ None
+      → in_truth v put (Some k) ≡ (truth f, Some (k - length ((f, λ (t : TermTree). t) ∷ map (lifted truth) found)))
+  truth-miss zero e = absurd cc
+  truth-miss (suc k) e = one-miss v truth found f put follows k e (case (slice_get found k)) ∙ ap (λ n. (truth f, Some n)) (up k (length (map (lifted truth) found)))
+    where
+      up : (k n : ℕ) → k - n ≡ suc k - suc n
+      up k n = omega arith
+
+  truth-follows : Follows v ((f, λ t. t) ∷ map (lifted truth) found) (truth f) (in_truth v put)
+  truth-follows = record { none = ap (λ p. (truth p.0, p.1)) follows.none; hit = truth-hit; miss = truth-miss }
+
+module _ (v : ℤ) where
+  mutual
+    term-follows : (t : TermTree) → Follows v (truths (places_in_term t)) t (put_term v t)
+    term-follows (number z) = unchanged-follows v (number z)
+    term-follows (name x) = unchanged-follows v (name x)
+    term-follows (plus t u) = subst (λ fs. Follows v fs (plus t u) (in_two plus (put_term v t) (put_term v u)))
+        (truths-two (λ w. plus w u) (plus t) (places_in_term t) (places_in_term u))
+        (two-follows v plus (truths (places_in_term t)) t (put_term v t) (term-follows t) (truths (places_in_term u)) u (put_term v u) (term-follows u))
+    term-follows (minus t u) = subst (λ fs. Follows v fs (minus t u) (in_two minus (put_term v t) (put_term v u)))
+        (truths-two (λ w. minus w u) (minus t) (places_in_term t) (places_in_term u))
+        (two-follows v minus (truths (places_in_term t)) t (put_term v t) (term-follows t) (truths (places_in_term u)) u (put_term v u) (term-follows u))
+    term-follows (times t u) = subst (λ fs. Follows v fs (times t u) (in_two times (put_term v t) (put_term v u)))
+        (truths-two (λ w. times w u) (times t) (places_in_term t) (places_in_term u))
+        (two-follows v times (truths (places_in_term t)) t (put_term v t) (term-follows t) (truths (places_in_term u)) u (put_term v u) (term-follows u))
+    term-follows (divided t u) = subst (λ fs. Follows v fs (divided t u) (in_two divided (put_term v t) (put_term v u)))
+        (truths-two (λ w. divided w u) (divided t) (places_in_term t) (places_in_term u))
+        (two-follows v divided (truths (places_in_term t)) t (put_term v t) (term-follows t) (truths (places_in_term u)) u (put_term v u) (term-follows u))
+    term-follows (remainder t u) = subst (λ fs. Follows v fs (remainder t u) (in_two remainder (put_term v t) (put_term v u)))
+        (truths-two (λ w. remainder w u) (remainder t) (places_in_term t) (places_in_term u))
+        (two-follows v remainder (truths (places_in_term t)) t (put_term v t) (term-follows t) (truths (places_in_term u)) u (put_term v u) (term-follows u))
+    term-follows (read r i) = subst (λ fs. Follows v fs (read r i) (in_two read (put_array v r) (put_term v i)))
+        (truths-two (λ w. read w i) (read r) (places_in_array r) (places_in_term i))
+        (two-follows v read (truths (places_in_array r)) r (put_array v r) (array-follows r) (truths (places_in_term i)) i (put_term v i) (term-follows i))
+    term-follows (truth f) = subst (λ fs. Follows v ((f, λ t. t) ∷ fs) (truth f) (in_truth v (put_form v f))) (sym (truths-within truth (places_in_form f)))
+        (truth-follows v f (truths (places_in_form f)) (put_form v f) (form-follows f))
+
+    array-follows : (r : ArrayTree) → Follows v (truths (places_in_array r)) r (put_array v r)
+    array-follows (array x) = unchanged-follows v (array x)
+    array-follows (stored a i t) =
+        let pair : TermTree → TermTree → TermTree × TermTree = λ x y. (x, y) in
+        let make : ArrayTree → TermTree × TermTree → ArrayTree = λ b p. stored b p.0 p.1 in
+        let is : List (Found TermTree) = truths (places_in_term i) in
+        let ts : List (Found TermTree) = truths (places_in_term t) in
+        let inner = two-follows v pair is i (put_term v i) (term-follows i) ts t (put_term v t) (term-follows t) in
+        let whole = two-follows v make (truths (places_in_array a)) a (put_array v a) (array-follows a)
+            (map (lifted (λ x. pair x t)) is ++ map (lifted (pair i)) ts) (i, t) (in_two pair (put_term v i) (put_term v t)) inner in
+        let rest : map (lifted (make a)) (map (lifted (λ x. pair x t)) is ++ map (lifted (pair i)) ts) ≡ truths (within (λ x. stored a x t) (places_in_term i) ++ within (stored a i) (places_in_term t)) =
+            map-joined (lifted (make a)) (map (lifted (λ x. pair x t)) is) (map (lifted (pair i)) ts)
+            ∙ ap₂ (λ xs ys. xs ++ ys) (map-lifted (make a) (λ x. pair x t) is) (map-lifted (make a) (pair i) ts)
+            ∙ truths-two (λ x. stored a x t) (stored a i) (places_in_term i) (places_in_term t) in
+        subst (λ fs. Follows v fs (stored a i t) (put_array v (stored a i t)))
+        (ap₂ (λ xs ys. xs ++ ys) (sym (truths-within (λ b. stored b i t) (places_in_array a))) rest
+        ∙ sym (filter_map-append truth_at (within (λ b. stored b i t) (places_in_array a)) (within (λ x. stored a x t) (places_in_term i) ++ within (stored a i) (places_in_term t))))
+        whole
+
+    form-follows : (f : FormTree) → Follows v (truths (places_in_form f)) f (put_form v f)
+    form-follows always = unchanged-follows v always
+    form-follows never = unchanged-follows v never
+    form-follows (at_most t u) = subst (λ fs. Follows v fs (at_most t u) (in_two at_most (put_term v t) (put_term v u)))
+        (truths-two (λ w. at_most w u) (at_most t) (places_in_term t) (places_in_term u))
+        (two-follows v at_most (truths (places_in_term t)) t (put_term v t) (term-follows t) (truths (places_in_term u)) u (put_term v u) (term-follows u))
+    form-follows (equal t u) = subst (λ fs. Follows v fs (equal t u) (in_two equal (put_term v t) (put_term v u)))
+        (truths-two (λ w. equal w u) (equal t) (places_in_term t) (places_in_term u))
+        (two-follows v equal (truths (places_in_term t)) t (put_term v t) (term-follows t) (truths (places_in_term u)) u (put_term v u) (term-follows u))
+    form-follows (both f g) = subst (λ fs. Follows v fs (both f g) (in_two both (put_form v f) (put_form v g)))
+        (truths-two (λ w. both w g) (both f) (places_in_form f) (places_in_form g))
+        (two-follows v both (truths (places_in_form f)) f (put_form v f) (form-follows f) (truths (places_in_form g)) g (put_form v g) (form-follows g))
+    form-follows (either f g) = subst (λ fs. Follows v fs (either f g) (in_two either (put_form v f) (put_form v g)))
+        (truths-two (λ w. either w g) (either f) (places_in_form f) (places_in_form g))
+        (two-follows v either (truths (places_in_form f)) f (put_form v f) (form-follows f) (truths (places_in_form g)) g (put_form v g) (form-follows g))
+    form-follows (denied f) = subst (λ fs. Follows v fs (denied f) (in_one denied (put_form v f))) (sym (truths-within denied (places_in_form f)))
+        (one-follows v denied (truths (places_in_form f)) f (put_form v f) (form-follows f))
+
+-- the number is put at the place that was asked for
+pub put_there : (v : ℤ) (f : FormTree) (k : ℕ) (q : FormTree × (TermTree → FormTree)) → slice_get (truths_in f) k ≡ Some q → (put_form v f (Some k)).0 ≡ q.1 (number v)
+put_there v f k q e = ap (λ p. p.0) ((form-follows v f).hit k q e)
+
+-- ---- truths and terms
+
+firsts-within : {Part Whole : Type 0} (make : Part → Whole) (ps : List (Place Part)) → map (λ p. p.0) (within make ps) ≡ map (λ p. p.0) ps
+firsts-within make [] = refl
+firsts-within make (p ∷ ps) = ap (λ ts. p.0 ∷ ts) (firsts-within make ps)
+
+firsts-two : {One Two Whole : Type 0} (make : One → Whole) (built : Two → Whole) (ps : List (Place One)) (qs : List (Place Two)) (xs ys : List TermTree)
+    → map (λ p. p.0) ps ≡ xs → map (λ p. p.0) qs ≡ ys → map (λ p. p.0) (within make ps ++ within built qs) ≡ xs ++ ys
+firsts-two make built ps qs xs ys h k = map-joined (λ p. p.0) (within make ps) (within built qs) ∙ ap₂ (λ a b. a ++ b) (firsts-within make ps ∙ h) (firsts-within built qs ∙ k)
+
+mutual
+  term-firsts : (t : TermTree) → map (λ p. p.0) (places_in_term t) ≡ terms_in_term t
+  term-firsts (number z) = refl
+  term-firsts (name x) = refl
+  term-firsts (plus t u) = ap (λ ts. plus t u ∷ ts) (firsts-two (λ w. plus w u) (plus t) (places_in_term t) (places_in_term u) (terms_in_term t) (terms_in_term u) (term-firsts t) (term-firsts u))
+  term-firsts (minus t u) = ap (λ ts. minus t u ∷ ts) (firsts-two (λ w. minus w u) (minus t) (places_in_term t) (places_in_term u) (terms_in_term t) (terms_in_term u) (term-firsts t) (term-firsts u))
+  term-firsts (times t u) = ap (λ ts. times t u ∷ ts) (firsts-two (λ w. times w u) (times t) (places_in_term t) (places_in_term u) (terms_in_term t) (terms_in_term u) (term-firsts t) (term-firsts u))
+  term-firsts (divided t u) = ap (λ ts. divided t u ∷ ts) (firsts-two (λ w. divided w u) (divided t) (places_in_term t) (places_in_term u) (terms_in_term t) (terms_in_term u) (term-firsts t) (term-firsts u))
+  term-firsts (remainder t u) = ap (λ ts. remainder t u ∷ ts) (firsts-two (λ w. remainder w u) (remainder t) (places_in_term t) (places_in_term u) (terms_in_term t) (terms_in_term u) (term-firsts t) (term-firsts u))
+  term-firsts (read r i) = ap (λ ts. read r i ∷ ts) (firsts-two (λ w. read w i) (read r) (places_in_array r) (places_in_term i) (terms_in_array r) (terms_in_term i) (array-firsts r) (term-firsts i))
+  term-firsts (truth f) = ap (λ ts. truth f ∷ ts) (firsts-within truth (places_in_form f) ∙ form-firsts f)
+
+  array-firsts : (r : ArrayTree) → map (λ p. p.0) (places_in_array r) ≡ terms_in_array r
+  array-firsts (array x) = refl
+  array-firsts (stored a i t) =
+      map-joined (λ p. p.0) (within (λ b. stored b i t) (places_in_array a)) (within (λ x. stored a x t) (places_in_term i) ++ within (stored a i) (places_in_term t))
+      ∙ ap₂ (λ xs ys. xs ++ ys) (firsts-within (λ b. stored b i t) (places_in_array a) ∙ array-firsts a)
+      (firsts-two (λ x. stored a x t) (stored a i) (places_in_term i) (places_in_term t) (terms_in_term i) (terms_in_term t) (term-firsts i) (term-firsts t))
+
+  pub form-firsts : (f : FormTree) → map (λ p. p.0) (places_in_form f) ≡ terms_in_form f
+  form-firsts always = refl
+  form-firsts never = refl
+  form-firsts (at_most t u) = firsts-two (λ w. at_most w u) (at_most t) (places_in_term t) (places_in_term u) (terms_in_term t) (terms_in_term u) (term-firsts t) (term-firsts u)
+  form-firsts (equal t u) = firsts-two (λ w. equal w u) (equal t) (places_in_term t) (places_in_term u) (terms_in_term t) (terms_in_term u) (term-firsts t) (term-firsts u)
+  form-firsts (both f g) = firsts-two (λ w. both w g) (both f) (places_in_form f) (places_in_form g) (terms_in_form f) (terms_in_form g) (form-firsts f) (form-firsts g)
+  form-firsts (either f g) = firsts-two (λ w. either w g) (either f) (places_in_form f) (places_in_form g) (terms_in_form f) (terms_in_form g) (form-firsts f) (form-firsts g)
+  form-firsts (denied f) = firsts-within denied (places_in_form f) ∙ form-firsts f
+
+truths-firsts : {Whole : Type 0} (ps : List (Place Whole)) → filter is_truth (map (λ p. p.0) ps) ≡ map (λ q. truth q.0) (truths ps)
+truths-firsts [] = refl
+truths-firsts ((number z, put) ∷ ps) = truths-firsts ps
+truths-firsts ((name x, put) ∷ ps) = truths-firsts ps
+truths-firsts ((plus t u, put) ∷ ps) = truths-firsts ps
+truths-firsts ((minus t u, put) ∷ ps) = truths-firsts ps
+truths-firsts ((times t u, put) ∷ ps) = truths-firsts ps
+truths-firsts ((divided t u, put) ∷ ps) = truths-firsts ps
+truths-firsts ((remainder t u, put) ∷ ps) = truths-firsts ps
+truths-firsts ((read a i, put) ∷ ps) = truths-firsts ps
+truths-firsts ((truth f, put) ∷ ps) = ap (λ ts. truth f ∷ ts) (truths-firsts ps)
+
+pub truths-found : (f : FormTree) (k : ℕ) → slice_get (filter is_truth (terms_in_form f)) k ≡ option_map (λ q. truth q.0) (slice_get (truths_in f) k)
+truths-found f k =
+    ap (λ ts. slice_get ts k) (ap (filter is_truth) (sym (form-firsts f)) ∙ truths-firsts (places_in_form f))
+    ∙ got-mapped (λ q. truth q.0) (truths_in f) k
