@@ -1,5 +1,5 @@
--- Opening a part leaves what is made unchanged, and what is made is the form with the number at that place.
-use Rattle.std.proofs.Common.{◌≡◌, ◌∙◌, Bool, true, false, ℕ, zero, suc, ◌+◌, ◌-◌, ◌≤◌, ℤ, List, [], ◌∷◌, ◌++◌, map, length, filter_map, filter, slice_get, unwrap_or, Option, Some, None, ap, ap₂, sym, refl, subst, arith}
+-- Opening a part leaves what is made unchanged, and what is made is the form with the term at that place.
+use Rattle.std.proofs.Common.{◌≡◌, ◌∙◌, Bool, true, false, ℕ, zero, suc, ◌+◌, ◌-◌, ◌≤◌, List, [], ◌∷◌, ◌++◌, map, length, filter_map, filter, slice_get, unwrap_or, Option, Some, None, ap, ap₂, sym, refl, subst, arith}
 use Rattle.std.specs.Option.{option_map}
 use Rattle.std.proofs.lemmas.List.{append-nil, length-append}
 use Rattle.std.proofs.lemmas.List.Elements.{filter_map-append}
@@ -17,7 +17,7 @@ use Rattle.cert_checker.specs.Code.Truths.{Left, Putting, unchanged, in_one, in_
 
 -- ---- opening
 
-module _ (v : ℤ) where
+module _ (v : TermTree) where
   pub term_put : (t : TermTree) (parts : List Part) (s : Left) (done : List Node) → is_truth t ≡ false
       → put_after v (opened_term t ++ parts) s (done ++ leaf_of_term t) ≡ put_after v (part.Term t ∷ parts) s done
   term_put (number z) parts s done e = refl
@@ -148,9 +148,9 @@ truths-within make ((read a i, put) ∷ places) = truths-within make places
 truths-within make ((truth f, put) ∷ places) = ap (λ qs. (f, λ t. make (put t)) ∷ qs) (truths-within make places)
 
 -- Putting goes to the place that is asked for, and without one nothing changes.
-record Follows (v : ℤ) {Whole : Type 0} (found : List (Found Whole)) (whole : Whole) (put : Putting Whole) : Type 0 where
+record Follows (v : TermTree) {Whole : Type 0} (found : List (Found Whole)) (whole : Whole) (put : Putting Whole) : Type 0 where
   none : put None ≡ (whole, None)
-  hit : (k : ℕ) (q : Found Whole) → slice_get found k ≡ Some q → put (Some k) ≡ (q.1 (number v), None)
+  hit : (k : ℕ) (q : Found Whole) → slice_get found k ≡ Some q → put (Some k) ≡ (q.1 v, None)
   miss : (k : ℕ) → slice_get found k ≡ None → put (Some k) ≡ (whole, Some (k - length found))
 
 none-some : {X : Type 0} (x : X) → None ≡ Some x → ⊥
@@ -168,16 +168,16 @@ case None = missing refl
 none-less : (k : ℕ) → k ≡ k - 0
 none-less k = omega arith
 
-unchanged-follows : (v : ℤ) {Whole : Type 0} (whole : Whole) → Follows v [] whole (unchanged whole)
+unchanged-follows : (v : TermTree) {Whole : Type 0} (whole : Whole) → Follows v [] whole (unchanged whole)
 unchanged-follows v whole = record { none = refl; hit = λ k q e. absurd cc; miss = λ k e. ap (λ n. (whole, Some n)) (none-less k) }
 
 some-is : {X : Type 0} (x y : X) → Some x ≡ Some y → x ≡ y
 some-is x y e = ap (λ o. unwrap_or o x) e
 
-module _ (v : ℤ) {Part Whole : Type 0} (make : Part → Whole) (found : List (Found Part)) (part : Part) (put : Putting Part) (follows : Follows v found part put) where
-  one-hit : (k : ℕ) (q : Found Whole) → slice_get (map (lifted make) found) k ≡ Some q → Case (slice_get found k) → in_one make put (Some k) ≡ (q.1 (number v), None)
+module _ (v : TermTree) {Part Whole : Type 0} (make : Part → Whole) (found : List (Found Part)) (part : Part) (put : Putting Part) (follows : Follows v found part put) where
+  one-hit : (k : ℕ) (q : Found Whole) → slice_get (map (lifted make) found) k ≡ Some q → Case (slice_get found k) → in_one make put (Some k) ≡ (q.1 v, None)
   one-hit k q e (there x h) = ap (λ p. (make p.0, p.1)) (follows.hit k x h)
-      ∙ ap (λ (r : Found Whole). (r.1 (number v), None)) (some-is (lifted make x) q (sym (got-mapped (lifted make) found k ∙ ap (option_map (lifted make)) h) ∙ e))
+      ∙ ap (λ (r : Found Whole). (r.1 v, None)) (some-is (lifted make x) q (sym (got-mapped (lifted make) found k ∙ ap (option_map (lifted make)) h) ∙ e))
   one-hit k q e (missing h) = absurd (none-some q (sym (got-mapped (lifted make) found k ∙ ap (option_map (lifted make)) h) ∙ e))
 
   one-miss : (k : ℕ) → slice_get (map (lifted make) found) k ≡ None → Case (slice_get found k) → in_one make put (Some k) ≡ (make part, Some (k - length (map (lifted make) found)))
@@ -194,7 +194,7 @@ module _ (v : ℤ) {Part Whole : Type 0} (make : Part → Whole) (found : List (
 two-less : (k m n : ℕ) → (k - m) - n ≡ k - (m + n)
 two-less k m n = omega arith
 
-module _ (v : ℤ) {One Two Whole : Type 0} (make : One → Two → Whole) (first : List (Found One)) (one : One) (put : Putting One) (follows : Follows v first one put)
+module _ (v : TermTree) {One Two Whole : Type 0} (make : One → Two → Whole) (first : List (Found One)) (one : One) (put : Putting One) (follows : Follows v first one put)
     (second : List (Found Two)) (two : Two) (puts : Putting Two) (goes : Follows v second two puts) where
   abbrev lefts : List (Found Whole)
   lefts = map (lifted (λ p. make p two)) first
@@ -217,18 +217,18 @@ module _ (v : ℤ) {One Two Whole : Type 0} (make : One → Two → Whole) (firs
       (got-right lefts rights k (in-left k ∙ ap (option_map (lifted (λ p. make p two))) h)).1
       ∙ ap (λ n. slice_get rights (k - n)) (length-mapped (lifted (λ p. make p two)) first)
 
-  two-hit : (k : ℕ) (q : Found Whole) → slice_get (lefts ++ rights) k ≡ Some q → Case (slice_get first k) → in_two make put puts (Some k) ≡ (q.1 (number v), None)
+  two-hit : (k : ℕ) (q : Found Whole) → slice_get (lefts ++ rights) k ≡ Some q → Case (slice_get first k) → in_two make put puts (Some k) ≡ (q.1 v, None)
   unfolding out
   two-hit k q e (there x h) =
       let is : slice_get (lefts ++ rights) k ≡ Some (lifted (λ p. make p two) x) =
           got-left lefts rights k (lifted (λ p. make p two) x) (in-left k ∙ ap (option_map (lifted (λ p. make p two))) h) in
-      ap out (follows.hit k x h) ∙ ap (λ p. (make (x.1 (number v)) p.0, p.1)) goes.none
-      ∙ ap (λ (r : Found Whole). (r.1 (number v), None)) (some-is (lifted (λ p. make p two) x) q (sym is ∙ e))
+      ap out (follows.hit k x h) ∙ ap (λ p. (make (x.1 v) p.0, p.1)) goes.none
+      ∙ ap (λ (r : Found Whole). (r.1 v, None)) (some-is (lifted (λ p. make p two) x) q (sym is ∙ e))
   two-hit k q e (missing h) = later (case (slice_get second (k - length first)))
     where
-      later : Case (slice_get second (k - length first)) → in_two make put puts (Some k) ≡ (q.1 (number v), None)
+      later : Case (slice_get second (k - length first)) → in_two make put puts (Some k) ≡ (q.1 v, None)
       later (there x g) = ap out (follows.miss k h) ∙ ap (λ p. (make one p.0, p.1)) (goes.hit (k - length first) x g)
-          ∙ ap (λ (r : Found Whole). (r.1 (number v), None)) (some-is (lifted (make one) x) q (sym (beyond k h ∙ in-right (k - length first) ∙ ap (option_map (lifted (make one))) g) ∙ e))
+          ∙ ap (λ (r : Found Whole). (r.1 v, None)) (some-is (lifted (make one) x) q (sym (beyond k h ∙ in-right (k - length first) ∙ ap (option_map (lifted (make one))) g) ∙ e))
       later (missing g) = absurd (none-some q (sym (beyond k h ∙ in-right (k - length first) ∙ ap (option_map (lifted (make one))) g) ∙ e))
 
   two-miss : (k : ℕ) → slice_get (lefts ++ rights) k ≡ None → Case (slice_get first k) → in_two make put puts (Some k) ≡ (make one two, Some (k - length (lefts ++ rights)))
@@ -268,9 +268,9 @@ truths-two : {One Two Whole : Type 0} (make : One → Whole) (built : Two → Wh
 truths-two make built ps qs =
     ap₂ (λ xs ys. xs ++ ys) (sym (truths-within make ps)) (sym (truths-within built qs)) ∙ sym (filter_map-append truth_at (within make ps) (within built qs))
 
-module _ (v : ℤ) (f : FormTree) (found : List (Found FormTree)) (put : Putting FormTree) (follows : Follows v found f put) where
-  truth-hit : (k : ℕ) (q : Found TermTree) → slice_get ((f, λ t. t) ∷ map (lifted truth) found) k ≡ Some q → in_truth v put (Some k) ≡ (q.1 (number v), None)
-  truth-hit zero q e = ap (λ (r : Found TermTree). (r.1 (number v), None)) (some-is (f, λ t. t) q e)
+module _ (v : TermTree) (f : FormTree) (found : List (Found FormTree)) (put : Putting FormTree) (follows : Follows v found f put) where
+  truth-hit : (k : ℕ) (q : Found TermTree) → slice_get ((f, λ t. t) ∷ map (lifted truth) found) k ≡ Some q → in_truth v put (Some k) ≡ (q.1 v, None)
+  truth-hit zero q e = ap (λ (r : Found TermTree). (r.1 v, None)) (some-is (f, λ t. t) q e)
   truth-hit (suc k) q e = one-hit v truth found f put follows k q e (case (slice_get found k))
 
   truth-miss : (k : ℕ) → slice_get ((f, λ t. t) ∷ map (lifted truth) found) k ≡ None
@@ -284,7 +284,7 @@ module _ (v : ℤ) (f : FormTree) (found : List (Found FormTree)) (put : Putting
   truth-follows : Follows v ((f, λ t. t) ∷ map (lifted truth) found) (truth f) (in_truth v put)
   truth-follows = record { none = ap (λ p. (truth p.0, p.1)) follows.none; hit = truth-hit; miss = truth-miss }
 
-module _ (v : ℤ) where
+module _ (v : TermTree) where
   mutual
     term-follows : (t : TermTree) → Follows v (truths (places_in_term t)) t (put_term v t)
     term-follows (number z) = unchanged-follows v (number z)
@@ -347,8 +347,8 @@ module _ (v : ℤ) where
     form-follows (denied f) = subst (λ fs. Follows v fs (denied f) (in_one denied (put_form v f))) (sym (truths-within denied (places_in_form f)))
         (one-follows v denied (truths (places_in_form f)) f (put_form v f) (form-follows f))
 
--- the number is put at the place that was asked for
-pub put_there : (v : ℤ) (f : FormTree) (k : ℕ) (q : FormTree × (TermTree → FormTree)) → slice_get (truths_in f) k ≡ Some q → (put_form v f (Some k)).0 ≡ q.1 (number v)
+-- the term is put at the place that was asked for
+pub put_there : (v : TermTree) (f : FormTree) (k : ℕ) (q : FormTree × (TermTree → FormTree)) → slice_get (truths_in f) k ≡ Some q → (put_form v f (Some k)).0 ≡ q.1 v
 put_there v f k q e = ap (λ p. p.0) ((form-follows v f).hit k q e)
 
 -- ---- truths and terms
@@ -405,3 +405,47 @@ pub truths-found : (f : FormTree) (k : ℕ) → slice_get (filter is_truth (term
 truths-found f k =
     ap (λ ts. slice_get ts k) (ap (filter is_truth) (sym (form-firsts f)) ∙ truths-firsts (places_in_form f))
     ∙ got-mapped (λ q. truth q.0) (truths_in f) k
+
+-- ---- a truth that is met
+
+module _ (v : TermTree) where
+  pub truth_skipped : (t : TermTree) (parts : List Part) (k : ℕ) (done : List Node) → is_truth t ≡ true
+      → put_after v (opened_term t ++ parts) (Some k) (done ++ leaf_of_term t) ≡ put_after v (part.Term t ∷ parts) (Some (suc k)) done
+  truth_skipped (truth f) parts k done e = truth_passed v f parts k done
+  truth_skipped (number z) parts k done e = absurd cc
+  truth_skipped (name x) parts k done e = absurd cc
+  truth_skipped (plus t u) parts k done e = absurd cc
+  truth_skipped (minus t u) parts k done e = absurd cc
+  truth_skipped (times t u) parts k done e = absurd cc
+  truth_skipped (divided t u) parts k done e = absurd cc
+  truth_skipped (remainder t u) parts k done e = absurd cc
+  truth_skipped (read a i) parts k done e = absurd cc
+
+  pub truth_kept : (t : TermTree) (parts : List Part) (done : List Node) → is_truth t ≡ true
+      → put_after v (opened_term t ++ parts) None (done ++ leaf_of_term t) ≡ put_after v (part.Term t ∷ parts) None done
+  truth_kept (truth f) parts done e = truth_done v f parts done
+  truth_kept (number z) parts done e = absurd cc
+  truth_kept (name x) parts done e = absurd cc
+  truth_kept (plus t u) parts done e = absurd cc
+  truth_kept (minus t u) parts done e = absurd cc
+  truth_kept (times t u) parts done e = absurd cc
+  truth_kept (divided t u) parts done e = absurd cc
+  truth_kept (remainder t u) parts done e = absurd cc
+  truth_kept (read a i) parts done e = absurd cc
+
+  pub truth_replaced : (t : TermTree) (parts : List Part) (done : List Node) → is_truth t ≡ true
+      → put_after v parts None (done ++ term_nodes v) ≡ put_after v (part.Term t ∷ parts) (Some 0) done
+  truth_replaced (truth f) parts done e = refl
+  truth_replaced (number z) parts done e = absurd cc
+  truth_replaced (name x) parts done e = absurd cc
+  truth_replaced (plus t u) parts done e = absurd cc
+  truth_replaced (minus t u) parts done e = absurd cc
+  truth_replaced (times t u) parts done e = absurd cc
+  truth_replaced (divided t u) parts done e = absurd cc
+  truth_replaced (remainder t u) parts done e = absurd cc
+  truth_replaced (read a i) parts done e = absurd cc
+
+-- what is left to do is the same where the parts and the nodes are
+pub same_after : (v : TermTree) (parts more : List Part) (s : Left) (done made : List Node) (whole : List Node) → more ≡ parts → made ≡ done
+    → put_after v parts s done ≡ whole → put_after v more s made ≡ whole
+same_after v parts more s done made whole e f h = (λ i. put_after v (e i) s (f i)) ∙ h

@@ -58,7 +58,7 @@ pub(crate) fn division_of<'a>(term: &TermRef<'a>) -> Option<(TermRef<'a>, i128)>
     }
 }
 
-fn is_truth(term: &TermRef<'_>) -> bool
+pub(crate) fn is_truth(term: &TermRef<'_>) -> bool
     ensures { result ≡ is_truth term.now }
 {
     match term.view() {

@@ -12,6 +12,7 @@ mod row;
 mod run;
 mod step;
 mod sum;
+mod truth;
 
 pub use atoms::{Atoms, row_of};
 pub use laws::{checked_is_valid, row_is_true, rule_is_sound, rules_follow};
