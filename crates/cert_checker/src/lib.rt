@@ -3,7 +3,7 @@
 
 mod atoms;
 mod combination;
-mod exchange;
+mod exchanged;
 mod find;
 mod laws;
 mod open;

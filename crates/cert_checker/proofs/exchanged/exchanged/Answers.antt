@@ -3,7 +3,7 @@ use Rattle.terms.specs.Nodes.{form_nodes}
 use Rattle.terms.proofs.OperandLaws.{is_form}
 use Rattle.cert_checker.specs.Places.{exchanged_form}
 use Rattle.cert_checker.specs.Code.Exchanging.{exchanged_after}
-use Rattle.cert_checker.proofs.exchange.exchanged.Goals as goal
+use Rattle.cert_checker.proofs.exchanged.exchanged.Goals as goal
 
 pub from_nodes-requires : goal.from_nodes-requires
 from_nodes-requires c =

@@ -4,7 +4,7 @@ use Rattle.cert_checker.specs.declared.part.Part.TheVariants as part
 use Rattle.cert_checker.specs.Code.Parts.{opened_array, opened_form}
 use Rattle.cert_checker.specs.Code.Exchanging.{exchanged_after, parts_work}
 use Rattle.cert_checker.proofs.ExchangeLaws.{array_left, array_less, form_left, form_less, fewer, on-one, on-both}
-use Rattle.cert_checker.proofs.exchange.exchange_part.Goals as goal
+use Rattle.cert_checker.proofs.exchanged.exchange_part.Goals as goal
 
 pub returns-in-Array-clause-made : goal.returns-in-Array-clause-made
 returns-in-Array-clause-made c =

@@ -8,12 +8,12 @@ ghost use Rattle.cert_checker.specs.Code.Exchanging.{exchanged_after, parts_work
 use crate::part::{Part, take_array, take_form, take_term};
 use std::alloc::{AllocError, Global};
 use terms::build::{put_copies, put_operator};
-use terms::{Form, Node, Term, TermRef};
+use terms::{Form, Node, TermRef};
 
 fn exchange_term<'a>(
     alloc: Global,
-    from: &Term,
-    to: &Term,
+    from: &TermRef<'_>,
+    to: &TermRef<'_>,
     term: TermRef<'a>,
     parts: &mut Vec<Part<'a>>,
     out: &mut Vec<Node>,
@@ -32,8 +32,8 @@ fn exchange_term<'a>(
 
 fn exchange_part<'a>(
     alloc: Global,
-    from: &Term,
-    to: &Term,
+    from: &TermRef<'_>,
+    to: &TermRef<'_>,
     next: Part<'a>,
     parts: &mut Vec<Part<'a>>,
     out: &mut Vec<Node>,
@@ -55,8 +55,8 @@ fn exchange_part<'a>(
 /// The form with `to` wherever `from` stands. Nothing is looked for inside what is replaced.
 pub(crate) fn exchanged(
     alloc: Global,
-    from: &Term,
-    to: &Term,
+    from: &TermRef<'_>,
+    to: &TermRef<'_>,
     form: &Form,
 ) -> Result<Form, AllocError>
     ensures { IfOk result (λ made. made ≡ exchanged_form from.now to.now form.now) }

@@ -5,7 +5,7 @@ use Rattle.cert_checker.specs.declared.part.Part.TheVariants as part
 use Rattle.cert_checker.specs.Code.Parts.{opened_term}
 use Rattle.cert_checker.specs.Code.Exchanging.{exchanged_after, parts_work}
 use Rattle.cert_checker.proofs.ExchangeLaws.{term_exchanged, term_left, term_less, term_some, fewer, on-one, on-both}
-use Rattle.cert_checker.proofs.exchange.exchange_term.Goals as goal
+use Rattle.cert_checker.proofs.exchanged.exchange_term.Goals as goal
 
 pub returns-then-eq-clause-made : goal.returns-then-eq-clause-made
 returns-then-eq-clause-made c =
