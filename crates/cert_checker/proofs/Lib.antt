@@ -17,3 +17,4 @@ pub mod RunLaws
 pub mod GrownLaws
 pub mod ComparisonLaws
 pub mod DistinctLaws
+pub mod CombinedLaws
