@@ -18,3 +18,4 @@ pub mod GrownLaws
 pub mod ComparisonLaws
 pub mod DistinctLaws
 pub mod CombinedLaws
+pub mod FalseLaws

@@ -3,3 +3,4 @@ pub mod SumRows
 pub mod Steps
 pub mod Comparisons
 pub mod Combined
+pub mod Closing

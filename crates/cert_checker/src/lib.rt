@@ -2,6 +2,7 @@
 #![tactic(auto)]
 
 mod atoms;
+mod close;
 mod combination;
 mod laws;
 mod open;
