@@ -4,3 +4,4 @@ pub mod Steps
 pub mod Comparisons
 pub mod Combined
 pub mod Closing
+pub mod Made
