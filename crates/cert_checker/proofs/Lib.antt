@@ -19,3 +19,4 @@ pub mod ComparisonLaws
 pub mod DistinctLaws
 pub mod CombinedLaws
 pub mod FalseLaws
+pub mod RangeLaws

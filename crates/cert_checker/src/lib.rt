@@ -8,6 +8,7 @@ mod laws;
 mod made;
 mod open;
 mod row;
+mod range;
 mod rules;
 mod run;
 mod step;
