@@ -1,5 +1,6 @@
 -- A row of a sum is within sizes exactly where the sum is.
-use Rattle.std.proofs.Common.{◌≡◌, ◌∙◌, ℕ, ◌+◌, ◌<◌, ◌≤◌, ◌^◌, zero, suc, ℤ, pos, negsuc, ◌+ℤ◌, ◌*ℤ◌, Bool, true, false, not, ◌&&◌, ◌||◌, cond, if◌then◌else◌, nat_eq, nat_le, nat_lt, List, [], ◌∷◌, ◌++◌, map, filter, ap, ap₂, sym, subst, refl, arith, ◌⊎◌, inl, inr}
+use Rattle.std.proofs.Common.{◌≡◌, ◌∙◌, ℕ, ◌+◌, ◌<◌, ◌≤◌, ◌^◌, zero, suc, ℤ, pos, negsuc, ◌+ℤ◌, ◌*ℤ◌, Bool, true, false, not, ◌&&◌, ◌||◌, cond, if◌then◌else◌, nat_eq, nat_le, nat_lt, List, [], ◌∷◌, ◌++◌, map, filter, ap, ap₂, sym, subst, refl, arith, ◌⊎◌, inl, inr, lit<}
+use Rattle.std.proofs.lemmas.Bool.Decides.{nat_tests}
 use Rattle.std.specs.Prelude.{unsigned_abs}
 use Rattle.std.specs.List.{list_any, list_all}
 use Rattle.std.proofs.lemmas.Int.{ints}
@@ -218,3 +219,12 @@ same-bool false false h k = refl
 -- The row is within sizes exactly where the sum is.
 pub row-size : (us : List TermTree) (s : Sum) (row : Row) → IsSumRow us s row → row_fits row ≡ sum_is_small s
 row-size us s row is = ap₂ (λ a b. a && b) (same-bool (all_fit row.parts) (are_small s.multiples) (fit-small us s row is) (small-fit us s row is)) (ap fits is.bound ∙ sym (small-fits s.constant))
+
+-- ---- the size of a small number
+
+pub small-size : (z : ℤ) → is_small z ≡ true → unsigned_abs z < 2 ^ 127
+unfolding is_small
+small-size z h = below (unsigned_abs z) (2 ^ 100) (2 ^ 127) h (lit< tt)
+  where
+    below : (n m k : ℕ) → nat_le n m ≡ true → m < k → n < k
+    below n m k e h = grind (arith, nat_tests)

@@ -4,12 +4,13 @@
 mod atoms;
 mod close;
 mod combination;
+mod divide;
 mod laws;
 mod made;
 mod open;
-mod row;
-
+mod places;
 mod range;
+mod row;
 mod rules;
 mod run;
 mod start;
@@ -17,5 +18,5 @@ mod step;
 mod sum;
 
 pub use atoms::{Atoms, row_of};
-pub use start::opening;
 pub use laws::{checked_is_valid, row_is_true, rule_is_sound, rules_follow};
+pub use start::opening;
