@@ -228,3 +228,8 @@ small-size z h = below (unsigned_abs z) (2 ^ 100) (2 ^ 127) h (lit< tt)
   where
     below : (n m k : ℕ) → nat_le n m ≡ true → m < k → n < k
     below n m k e h = grind (arith, nat_tests)
+
+small-fits-turned : (z : ℤ) → fits z ≡ is_small z
+small-fits-turned z = sym (small-fits z)
+
+pub ruleset small_numbers = (small-fits)

@@ -8,6 +8,7 @@ ghost use Rattle.cert_checker.specs.Code.Made.{seen, as_facts};
 
 use crate::made::{one_child, pair};
 use crate::places::division_at;
+use crate::sum::number_row;
 use std::alloc::{AllocError, Global};
 use terms::{Fact, Form, Term};
 
@@ -97,4 +98,29 @@ fn division(alloc: Global, of: &Term, by: i128) -> Result<Vec<Fact>, AllocError>
 {
     let parts = is_of_parts(alloc, of, by)?;
     pair(alloc, parts, sign_of_remainder(alloc, of, by)?)
+}
+
+/// What Divide adds.
+pub(crate) fn divide(
+    alloc: Global,
+    place: u32,
+    form: &Form,
+) -> Result<Option<Vec<Vec<Fact>>>, AllocError>
+    ensures { IfOk result (λ made. option_map seen made ≡ as_facts (divide place form.now)) }
+{
+    let Some((of, by)) = division_at(alloc, form, place)? else {
+        return Ok(None);
+    };
+    if !is_small(alloc, by) {
+        return Ok(None);
+    }
+    let facts = division(alloc, &of, by)?;
+    Ok(Some(one_child(alloc, facts)?))
+}
+
+#[tactic(auto, using(crate::proofs::SizeLaws::small_numbers))]
+pub(crate) fn is_small(alloc: Global, number: i128) -> bool
+    ensures { result ≡ is_small number }
+{
+    number_row(alloc, number).fits()
 }
