@@ -20,3 +20,4 @@ pub mod DistinctLaws
 pub mod CombinedLaws
 pub mod FalseLaws
 pub mod RangeLaws
+pub mod BranchLaws

@@ -5,3 +5,4 @@ pub mod Comparisons
 pub mod Combined
 pub mod Closing
 pub mod Made
+pub mod Branches

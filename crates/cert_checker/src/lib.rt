@@ -2,6 +2,8 @@
 #![tactic(auto)]
 
 mod atoms;
+mod branch;
+mod child;
 mod close;
 mod combination;
 mod divide;
@@ -20,5 +22,6 @@ mod step;
 mod sum;
 
 pub use atoms::{Atoms, row_of};
+pub use child::children;
 pub use laws::{checked_is_valid, row_is_true, rule_is_sound, rules_follow};
 pub use start::opening;
