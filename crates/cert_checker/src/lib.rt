@@ -3,6 +3,7 @@
 
 mod atoms;
 mod branch;
+mod check;
 mod child;
 mod close;
 mod combination;
@@ -22,6 +23,7 @@ mod step;
 mod sum;
 
 pub use atoms::{Atoms, row_of};
+pub use check::check_cert;
 pub use child::children;
 pub use laws::{checked_is_valid, row_is_true, rule_is_sound, rules_follow};
 pub use start::opening;

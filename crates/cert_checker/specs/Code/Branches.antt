@@ -33,3 +33,8 @@ IsStepDone sorts rule facts branches (Ok true) more waiting =
     ((rules : List Rule) → checks sorts (rule ∷ rules) (all_facts facts branches) ≡ checks sorts rules (all_facts more waiting)) × AreShared (length more) waiting
 IsStepDone sorts rule facts branches (Ok false) more waiting = (rules : List Rule) → checks sorts (rule ∷ rules) (all_facts facts branches) ≡ false
 IsStepDone sorts rule facts branches (Err e) more waiting = ⊤
+
+-- what is left of the rules and the branches checks where all does
+pub record IsChecking (sorts : List (Sym × Sort)) (rules rest : List Rule) (start facts : List Fact) (branches : List Shared) : Type 0 where
+  pub left : checks sorts rest (all_facts facts branches) ≡ checks sorts rules (start ∷ [])
+  pub shared : AreShared (length facts) branches
