@@ -9,7 +9,7 @@ use Rattle.cert_form.specs.declared.cert.Rule.{Rule}
 use Rattle.cert_checker.specs.declared.branch.Branch.{Branch}
 use Rattle.cert_checker.specs.Rules.{children}
 use Rattle.cert_checker.specs.Checks.{goes_on, checks}
-use Rattle.cert_checker.specs.Code.Branches.{Shared, seen_branches, with_shared, all_facts, AreShared, IsStepDone}
+use Rattle.cert_checker.specs.Code.Branches.{Shared, seen_branches, with_shared, all_facts, AreShared, IsStepDone, IsChecking}
 
 pub map-append : {X Y : Type 0} (f : X → Y) (xs ys : List X) → map f (xs ++ ys) ≡ map f xs ++ map f ys
 map-append f [] ys = refl
@@ -94,3 +94,57 @@ step-fails sorts rule facts now n added bs more is applies = λ rules. ap (λ l.
 
 pub step-left : (sorts : List (Sym × Sort)) (rule : Rule) (facts now : List Fact) (more : List Shared) → IsStepDone sorts rule facts [] (Ok false) now more
 step-left sorts rule facts now more = λ rules. refl
+
+-- ---- the code's step
+
+pub seen-popped : (old new : List Branch) (b : Branch) → old ≡ new ++ (b ∷ []) → seen_branches (reverse old) ≡ (b.shared, b.added.items) ∷ seen_branches (reverse new)
+seen-popped old new b e = ap (λ l. seen_branches (reverse l)) e ∙ ap seen_branches (reverse-append new (b ∷ []))
+
+pub done-answer : (sorts : List (Sym × Sort)) (rule : Rule) (facts now slice : List Fact) (old popped new : List Branch) (b : Branch) (made : List (List Fact)) (n : ℕ) (o : Option (List (List Fact)))
+    → old ≡ popped ++ (b ∷ []) → AreShared (length facts) (seen_branches (reverse old)) → now ≡ take b.shared facts ++ b.added.items → slice ≡ now → o ≡ children sorts slice rule → o ≡ Some made
+    → n ≡ length now → seen_branches (reverse new) ≡ with_shared n made ++ seen_branches (reverse popped) → IsStepDone sorts rule facts (seen_branches (reverse old)) (Ok true) now (seen_branches (reverse new))
+done-answer sorts rule facts now slice old popped new b made n o pop shared is view gives some len put =
+    let seen : seen_branches (reverse old) ≡ (b.shared, b.added.items) ∷ seen_branches (reverse popped) = seen-popped old popped b pop in
+    subst (λ l. IsStepDone sorts rule facts l (Ok true) now (seen_branches (reverse new))) (sym seen)
+    (step-applies sorts rule facts now b.shared b.added.items (seen_branches (reverse popped)) (seen_branches (reverse new)) made
+    (subst (AreShared (length facts)) seen shared) is (ap (λ l. children sorts l rule) (sym view) ∙ sym gives ∙ some) (put ∙ ap (λ k. with_shared k made ++ seen_branches (reverse popped)) len))
+
+pub checking-more : (sorts : List (Sym × Sort)) (rules rest : List Rule) (rule : Rule) (start facts now : List Fact) (branches more : List Shared) → IsChecking sorts rules (rule ∷ rest) start facts branches
+    → IsStepDone sorts rule facts branches (Ok true) now more → IsChecking sorts rules rest start now more
+checking-more sorts rules rest rule start facts now branches more c h = record { left = sym (h.0 rest) ∙ c.left; shared = h.1 }
+
+pub checking-fails : (sorts : List (Sym × Sort)) (rules rest : List Rule) (rule : Rule) (start facts now : List Fact) (branches more : List Shared) → IsChecking sorts rules (rule ∷ rest) start facts branches
+    → IsStepDone sorts rule facts branches (Ok false) now more → false ≡ checks sorts rules (start ∷ [])
+checking-fails sorts rules rest rule start facts now branches more c h = sym (h rest) ∙ c.left
+
+pub checking-begins : (sorts : List (Sym × Sort)) (rules : List Rule) (start facts : List Fact) (branches : List Branch) (b : Branch) → facts ≡ [] → branches ≡ b ∷ [] → b.shared ≡ 0 → b.added.items ≡ start
+    → IsChecking sorts rules rules start facts (seen_branches (reverse branches))
+checking-begins sorts rules start facts branches b none is first same = record {
+  left = ap₂ (λ l bs. checks sorts rules (all_facts l (seen_branches (reverse bs)))) none is ∙ ap (λ l. checks sorts rules (l ∷ [])) (ap (λ n. take n [] ++ b.added.items) first ∙ same);
+  shared = subst (λ bs. AreShared (length facts) (seen_branches (reverse bs))) (sym is) (subst (λ n. n ≤ length facts) (sym first) (least (length facts)), tt);
+}
+  where
+    least : (n : ℕ) → 0 ≤ n
+    least n = omega arith
+
+no-branches : (branches : List Branch) → seen_branches branches ≡ [] → branches ≡ []
+no-branches [] e = refl
+no-branches (b ∷ bs) e = absurd cc
+
+none-reversed : (branches : List Branch) → reverse branches ≡ [] → branches ≡ []
+none-reversed [] e = refl
+none-reversed (b ∷ bs) e = absurd (ends-in (reverse bs) b (sym (reverse-append (b ∷ []) bs) ∙ e))
+  where
+    ends-in : (xs : List Branch) (x : Branch) → xs ++ (x ∷ []) ≡ [] → ⊥
+    ends-in [] x e = absurd cc
+    ends-in (y ∷ ys) x e = absurd cc
+
+pub checking-ends : (sorts : List (Sym × Sort)) (rules : List Rule) (start facts : List Fact) (branches : List Branch) → IsChecking sorts rules [] start facts (seen_branches (reverse branches))
+    → (branches ≡ [] → true ≡ checks sorts rules (start ∷ [])) × ((branches ≡ [] → ⊥) → false ≡ checks sorts rules (start ∷ []))
+checking-ends sorts rules start facts branches c =
+    (λ e. sym (ap (λ bs. checks sorts [] (all_facts facts (seen_branches (reverse bs)))) e) ∙ c.left,
+    λ some. go (seen_branches (reverse branches)) refl some ∙ c.left)
+  where
+    go : (bs : List Shared) → seen_branches (reverse branches) ≡ bs → (branches ≡ [] → ⊥) → false ≡ checks sorts [] (all_facts facts (seen_branches (reverse branches)))
+    go [] e some = absurd (some (none-reversed branches (no-branches (reverse branches) e)))
+    go (b ∷ bs) e some = ap (λ l. checks sorts [] (all_facts facts l)) (sym e)
