@@ -21,3 +21,4 @@ pub mod CombinedLaws
 pub mod FalseLaws
 pub mod RangeLaws
 pub mod BranchLaws
+pub mod OrderLaws

@@ -6,3 +6,4 @@ pub mod Combined
 pub mod Closing
 pub mod Made
 pub mod Branches
+pub mod Rounding
