@@ -22,3 +22,4 @@ pub mod FalseLaws
 pub mod RangeLaws
 pub mod BranchLaws
 pub mod OrderLaws
+pub mod RoundRowLaws
