@@ -82,10 +82,11 @@ pub step-applies : (sorts : List (Sym × Sort)) (rule : Rule) (facts now : List 
 step-applies sorts rule facts now n added bs more made shared is applies put =
     let kept : all_facts now bs ≡ all_facts facts bs = ap (λ l. all_facts l bs) is ∙ facts-kept n facts added bs shared.0 shared.1 in
     let after : all_facts now more ≡ map (λ forms. now ++ forms) made ++ all_facts facts bs
-    = ap (all_facts now) put ∙ map-append (λ b. take b.0 now ++ b.1) (with_shared (length now) made) bs ∙ ap₂ (λ a b. a ++ b) (children-facts now made) kept in
-    (λ rules. ap (λ l. checks sorts (rule ∷ rules) (l ∷ all_facts facts bs)) (sym is) ∙ ap (goes_on (checks sorts rules) now (all_facts facts bs)) applies ∙ ap (checks sorts rules) (sym after),
-    subst (AreShared (length now)) (sym put) (shared-with (length now) made bs
-    (shared-more n (length now) bs (subst (λ l. n ≤ length l) (sym is) (long n facts added shared.0)) shared.1)))
+    = ap (all_facts now) put ∙ map-append (λ b. take b.0 now ++ b.1) (with_shared (length now) made) bs ∙ ap₂ (λ a b. a ++ b) (children-facts now made) kept in (
+      λ rules. ap (λ l. checks sorts (rule ∷ rules) (l ∷ all_facts facts bs)) (sym is) ∙ ap (goes_on (checks sorts rules) now (all_facts facts bs)) applies ∙ ap (checks sorts rules) (sym after),
+      subst (AreShared (length now)) (sym put) (shared-with (length now) made bs
+          (shared-more n (length now) bs (subst (λ l. n ≤ length l) (sym is) (long n facts added shared.0)) shared.1)),
+    )
 
 pub step-fails : (sorts : List (Sym × Sort)) (rule : Rule) (facts now : List Fact) (n : ℕ) (added : List Fact) (bs more : List Shared)
     → now ≡ take n facts ++ added → children sorts now rule ≡ None → IsStepDone sorts rule facts ((n, added) ∷ bs) (Ok false) now more
@@ -141,9 +142,10 @@ none-reversed (b ∷ bs) e = absurd (ends-in (reverse bs) b (sym (reverse-append
 
 pub checking-ends : (sorts : List (Sym × Sort)) (rules : List Rule) (start facts : List Fact) (branches : List Branch) → IsChecking sorts rules [] start facts (seen_branches (reverse branches))
     → (branches ≡ [] → true ≡ checks sorts rules (start ∷ [])) × ((branches ≡ [] → ⊥) → false ≡ checks sorts rules (start ∷ []))
-checking-ends sorts rules start facts branches c =
-    (λ e. sym (ap (λ bs. checks sorts [] (all_facts facts (seen_branches (reverse bs)))) e) ∙ c.left,
-    λ some. go (seen_branches (reverse branches)) refl some ∙ c.left)
+checking-ends sorts rules start facts branches c = (
+  λ e. sym (ap (λ bs. checks sorts [] (all_facts facts (seen_branches (reverse bs)))) e) ∙ c.left,
+  λ some. go (seen_branches (reverse branches)) refl some ∙ c.left,
+)
   where
     go : (bs : List Shared) → seen_branches (reverse branches) ≡ bs → (branches ≡ [] → ⊥) → false ≡ checks sorts [] (all_facts facts (seen_branches (reverse branches)))
     go [] e some = absurd (some (none-reversed branches (no-branches (reverse branches) e)))

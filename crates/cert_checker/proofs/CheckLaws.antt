@@ -141,10 +141,11 @@ denied-at v z x lo hi f n none from to is =
     let body : form_at w (replaced_form (number_by x (name z)) f) ≡ form_at (with_value v x n) f =
     form_at-number_by x (name z) w f ∙ ap (λ k. form_at (with_value w x k) f) (own-value v z n)
     ∙ sym (form_at-agree (with_value v x n) (with_value w x n) f
-    (All-weaker P (AgreesAt (with_value v x n) (with_value w x n)) (λ o same. AgreesAt-both v w x n o (λ e. same)) (form_names f) parts.body)) in
-    (low-test (term_at w lo) (w.value z) n (subst (λ a. a ≤ℤ n) (sym low) from) (own-value v z n),
-    high-test (w.value z) (term_at w hi) n (subst (λ b. n <ℤ b) (sym high) to) (own-value v z n),
-    ap not (body ∙ is))
+    (All-weaker P (AgreesAt (with_value v x n) (with_value w x n)) (λ o same. AgreesAt-both v w x n o (λ e. same)) (form_names f) parts.body)) in (
+      low-test (term_at w lo) (w.value z) n (subst (λ a. a ≤ℤ n) (sym low) from) (own-value v z n),
+      high-test (w.value z) (term_at w hi) n (subst (λ b. n <ℤ b) (sym high) to) (own-value v z n),
+      ap not (body ∙ is),
+    )
 
 plain-goal : (v : Interpretation) (s : Sequent) (f : FormTree) → s.goal ≡ fact.Plain f → Fails v (opening s) → All (FactAt v) s.hyps → FactAt v (fact.Plain f)
 plain-goal v s f is fail hyps = by_bool (form_at v f) (λ e. e)

@@ -78,8 +78,11 @@ pub adds : (facts : List Fact) (i : ℕ) (times : ℤ) (line row_line : Line) (s
 adds facts i times line row_line sum row us vs o one at two e made =
     let both = added-row line row_line times sum row us vs one two e in
     chosen (may_add sum times row) (plus_times sum times row) o made (λ o. AddsTo facts i times line (Ok o) vs)
-    (λ may. (plus_multiple line times row_line, next-is facts i times line row_line at ∙ ap (λ b. if b then Some (plus_multiple line times row_line) else None) (sym both.may ∙ may),
-        combined-more line row_line times sum row us vs one two e both may))
+    (λ may. (
+      plus_multiple line times row_line,
+      next-is facts i times line row_line at ∙ ap (λ b. if b then Some (plus_multiple line times row_line) else None) (sym both.may ∙ may),
+      combined-more line row_line times sum row us vs one two e both may,
+    ))
     (λ may. next-is facts i times line row_line at ∙ ap (λ b. if b then Some (plus_multiple line times row_line) else None) (sym both.may ∙ may))
 
 pub adds-none : (facts : List Fact) (i : ℕ) (times : ℤ) (line : Line) (vs : List TermTree) → row_at facts i ≡ None → AddsTo facts i times line (Ok None) vs

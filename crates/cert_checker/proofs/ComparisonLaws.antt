@@ -99,8 +99,11 @@ line-row relation.More s us row c atoms made = record { in_form = made.is_row.in
 line-row relation.Equal s us row c atoms made = record { in_form = made.is_row.in_form; fits = and_true (all_fit row.parts) (fits (neg_ℤ row.bound)) (and_left (all_fit row.parts) (fits row.bound) made.fits) (neg-fits row.bound ∙ and_right (all_fit row.parts) (fits row.bound) made.fits); parts = made.is_row.parts; bound = ap neg_ℤ made.is_row.bound; equal = refl }
 
 pub compared-row : (c : Comparison) (old new : List TermTree) (sum row : Row) → row ≡ at_zero sum (is_equality c.relation) → IsMade (goal_of c old) sum new → IsCompared c old (Ok row) new
-compared-row c old new sum row is made = (subst (IsRow new (line_in c)) (sym is) (line-row c.relation (compared_sum c.relation c.left c.right) new sum c old made),
-    sym (small-is c old) ∙ made.small, made.atoms_are ∙ atoms-are c.relation c.left c.right old)
+compared-row c old new sum row is made = (
+  subst (IsRow new (line_in c)) (sym is) (line-row c.relation (compared_sum c.relation c.left c.right) new sum c old made),
+  sym (small-is c old) ∙ made.small,
+  made.atoms_are ∙ atoms-are c.relation c.left c.right old,
+)
 
 pub compared-fails : (c : Comparison) (old new : List TermTree) (fail : RowFail) → Makes (goal_of c old) (Err fail) new → IsCompared c old (Err fail) new
 compared-fails c old new Wide h = sym (small-is c old) ∙ h

@@ -153,7 +153,7 @@ in-order f c low (t ∷ ts) (x ∷ xs) is from counts below = by_bool (nat_eq x.
     ∙ ap₂ (λ m rest. m ∷ rest) (ap₂ (λ u z. (u, z)) (is.0 ∙ ap f (sym here)) worth)
     (in-order f c (suc low) ts xs is.1 (subst (λ n. From (suc n) xs) here from.2)
     (λ n h k. counts n (le-later low n h) (subst (λ b. n < b) (sym (one-later low (length ts))) k)
-        ∙ ap (λ b. if b then x.1 else coefficient n xs) (apart x.0 n (subst (λ a. a < n) (sym here) (lt-from low n h))))
+    ∙ ap (λ b. if b then x.1 else coefficient n xs) (apart x.0 n (subst (λ a. a < n) (sym here) (lt-from low n h))))
     (subst (λ b. Below b xs) (one-later low (length ts)) below.1)))
     (λ e. let later : suc low ≤ x.0 = less (differ x.0 low e from.0) in
     skip (t, c t) (map (counted c) ts) (ap is_zero (ap c is.0 ∙ counts low (same-le low) (room low (length ts)) ∙ coefficient-before low (suc low) (x ∷ xs) (room-one low) (later, from.1, from.2)))
@@ -192,9 +192,10 @@ unfolding IsDistinct
 distinct-number [] n d h = absurd (omega arith)
 distinct-number (u ∷ us) zero d h = (or-first (same_term u u) (has_atom us u) (same_term-refl u), number-first u us u (same_term-refl u))
 distinct-number (u ∷ us) (suc n) d h =
-    let rest = distinct-number us n d.1 (below-one n (length us) h) in
-    (or-second (same_term u (get_or us n zero_term)) (has_atom us (get_or us n zero_term)) rest.0,
-    number-later u us (get_or us n zero_term) (all-at (λ w. same_term u w ≡ false) us n zero_term d.0 (below-one n (length us) h)) ∙ ap (λ k. 1 + k) rest.1 ∙ add-one n)
+    let rest = distinct-number us n d.1 (below-one n (length us) h) in (
+      or-second (same_term u (get_or us n zero_term)) (has_atom us (get_or us n zero_term)) rest.0,
+      number-later u us (get_or us n zero_term) (all-at (λ w. same_term u w ≡ false) us n zero_term d.0 (below-one n (length us) h)) ∙ ap (λ k. 1 + k) rest.1 ∙ add-one n,
+    )
 
 is-from : (f : ℕ → TermTree) (low : ℕ) (us : List TermTree) → ((k : ℕ) → k < length us → get_or us k zero_term ≡ f (low + k)) → IsFrom f low us
 is-from f low [] h = tt
@@ -211,10 +212,12 @@ is-from f low (u ∷ us) h = (h 0 (first (length us)) ∙ ap f (plus-zero low), 
 
 all-below : (bound low : ℕ) (parts : List Part) → From low parts → ((n : ℕ) → is_zero (coefficient n parts) ≡ false → n < bound) → Below bound parts
 all-below bound low [] from h = tt
-all-below bound low (x ∷ xs) from h = (h x.0 (ap is_zero (coefficient-first x xs) ∙ from.1),
-    all-below bound (suc x.0) xs from.2 (λ n e. by_bool (nat_eq x.0 n)
-    (λ same. absurd (let other : true ≡ false = sym (ap is_zero (coefficient-before n (suc x.0) xs (subst (λ k. k < suc x.0) (tells x.0 n same) (less x.0)) from.2)) ∙ e in cc))
-    (λ other. h n (ap (λ b. is_zero (if b then x.1 else coefficient n xs)) other ∙ e))))
+all-below bound low (x ∷ xs) from h = (
+  h x.0 (ap is_zero (coefficient-first x xs) ∙ from.1),
+  all-below bound (suc x.0) xs from.2 (λ n e. by_bool (nat_eq x.0 n)
+      (λ same. absurd (let other : true ≡ false = sym (ap is_zero (coefficient-before n (suc x.0) xs (subst (λ k. k < suc x.0) (tells x.0 n same) (less x.0)) from.2)) ∙ e in cc))
+      (λ other. h n (ap (λ b. is_zero (if b then x.1 else coefficient n xs)) other ∙ e))),
+)
   where
     less : (n : ℕ) → n < suc n
     less n = omega arith
@@ -236,7 +239,7 @@ used-parts line row us c =
     ∙ in-order (λ n. get_or us n zero_term) (λ t. term_coefficient t line.multiples) 0 us row.parts
     (is-from (λ n. get_or us n zero_term) 0 us (λ k h. ap (λ n. get_or us n zero_term) (zero-plus k))) c.is_row.in_form
     (λ n h k. let number = distinct-number us n distinct (subst (λ b. n < b) (sym (zero-plus (length us))) k) in
-        sym (coefficient-number us (get_or us n zero_term) line.multiples number.0 c.is_row.numbered) ∙ ap (λ m. at_point (unit m) us line.multiples) number.1 ∙ sym (row-coefficient us (sum_for line) row c.is_row n))
+    sym (coefficient-number us (get_or us n zero_term) line.multiples number.0 c.is_row.numbered) ∙ ap (λ m. at_point (unit m) us line.multiples) number.1 ∙ sym (row-coefficient us (sum_for line) row c.is_row n))
     (subst (λ b. Below b row.parts) (zero-plus (length us)) (all-below (length us) 0 row.parts c.is_row.in_form
     (λ n e. elim (numbers-found us n line.multiples c.is_row.numbered) [
       | inl zero_there ↦ absurd (let other : true ≡ false = sym (ap is_zero (row-coefficient us (sum_for line) row c.is_row n ∙ zero_there)) ∙ e in cc)

@@ -79,5 +79,5 @@ rounded-true v d line may h =
     ∙ ap (λ z. d *ℤ z) (sym (joined-at v terms)) in
     let bound = rounded-down line.bound d d_up in
     le-test (term_at v (joined terms)) (int_div_euclid line.bound d)
-        (round-down d (term_at v (joined terms)) line.bound (int_div_euclid line.bound d) (int_rem_euclid line.bound d) (up-le d d_up) bound.is bound.below
-        (subst (λ w. w ≤ℤ line.bound) whole h.below))
+    (round-down d (term_at v (joined terms)) line.bound (int_div_euclid line.bound d) (int_rem_euclid line.bound d) (up-le d d_up) bound.is bound.below
+    (subst (λ w. w ≤ℤ line.bound) whole h.below))

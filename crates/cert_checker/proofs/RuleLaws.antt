@@ -229,13 +229,18 @@ second-true true b h = refl
 second-true false b h = h
 
 division-true : (v : Interpretation) (a : TermTree) (d : ℤ) → is_zero d ≡ false → AreTrue v (division a d)
-division-true v a d nonzero = ((Decides-int_eq (term_at v a) _).1 (divided-parts (term_at v a) d),
-    (elim ((has_remainder (term_at v a) d nonzero).signs) [
+division-true v a d nonzero = (
+  (Decides-int_eq (term_at v a) _).1 (divided-parts (term_at v a) d),
+  (
+    elim ((has_remainder (term_at v a) d nonzero).signs) [
       | inl up ↦ first-true _ _ (and_true (int_le (pos 0) (term_at v a)) _ (le-test (pos 0) (term_at v a) up.0)
-        (both-tests (pos 0) (remainder_of (term_at v a) d) (pos (unsigned_abs d) -ℤ pos 1) up.1 up.2))
+          (both-tests (pos 0) (remainder_of (term_at v a) d) (pos (unsigned_abs d) -ℤ pos 1) up.1 up.2))
       | inr down ↦ second-true _ _ (and_true (int_le (term_at v a) (negsuc 0)) _ (le-test (term_at v a) (negsuc 0) down.0)
-        (both-tests (pos 1 -ℤ pos (unsigned_abs d)) (remainder_of (term_at v a) d) (pos 0) down.1 down.2))
-    ], tt))
+          (both-tests (pos 1 -ℤ pos (unsigned_abs d)) (remainder_of (term_at v a) d) (pos 0) down.1 down.2))
+    ],
+    tt,
+  ),
+)
 
 -- what is divided by stands there as a number other than 0
 abbrev IsNonzero : TermTree × ℤ → Type 0

@@ -203,7 +203,7 @@ small-fit us s row is small = all-fit 0 row.parts is.in_form (λ n. ap fits (row
     elim (numbers-found us n s.multiples is.numbered) [
       | inl none ↦ ap fits none
       | inr found ↦ ap (λ k. fits (at_point (unit k) us s.multiples)) (sym found.is) ∙ ap fits (coefficient-number us found.atom s.multiples found.has is.numbered)
-        ∙ sym (small-fits (term_coefficient found.atom s.multiples)) ∙ small-at s.multiples small found.atom
+          ∙ sym (small-fits (term_coefficient found.atom s.multiples)) ∙ small-at s.multiples small found.atom
     ])
 
 fit-small : (us : List TermTree) (s : Sum) (row : Row) → IsSumRow us s row → all_fit row.parts ≡ true → are_small s.multiples ≡ true

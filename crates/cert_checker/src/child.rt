@@ -26,11 +26,7 @@ fn closed(
     Ok(None)
 }
 
-fn both_at(
-    alloc: Global,
-    facts: &[Fact],
-    fact: u32,
-) -> Result<Option<Vec<Vec<Fact>>>, AllocError>
+fn both_at(alloc: Global, facts: &[Fact], fact: u32) -> Result<Option<Vec<Vec<Fact>>>, AllocError>
     ensures { IfOk result (λ made. option_map seen made ≡ as_facts (on_plain facts.now fact both_parts)) }
 {
     match plain(facts, fact) {
@@ -39,11 +35,7 @@ fn both_at(
     }
 }
 
-fn case_at(
-    alloc: Global,
-    facts: &[Fact],
-    fact: u32,
-) -> Result<Option<Vec<Vec<Fact>>>, AllocError>
+fn case_at(alloc: Global, facts: &[Fact], fact: u32) -> Result<Option<Vec<Vec<Fact>>>, AllocError>
     ensures { IfOk result (λ made. option_map seen made ≡ as_facts (on_plain facts.now fact each_case)) }
 {
     match plain(facts, fact) {

@@ -110,11 +110,7 @@ fn closes_as_written(facts: &[Fact], pairs: &[(u32, i128)]) -> bool
     false
 }
 
-fn closes_by_sum(
-    alloc: Global,
-    facts: &[Fact],
-    pairs: &[(u32, i128)],
-) -> Result<bool, AllocError>
+fn closes_by_sum(alloc: Global, facts: &[Fact], pairs: &[(u32, i128)]) -> Result<bool, AllocError>
     ensures { IfOk result (λ closes. closes ≡ closes_by_sum (combination facts.now pairs.now)) }
 {
     let mut atoms = Vec::new(alloc);

@@ -32,12 +32,7 @@ fn row_at(
 }
 
 /// A row more, if its multiplier is allowed, and that and the sum are within sizes.
-fn checked_plus(
-    alloc: Global,
-    sum: &Row,
-    times: i128,
-    row: &Row,
-) -> Result<Option<Row>, AllocError>
+fn checked_plus(alloc: Global, sum: &Row, times: i128, row: &Row) -> Result<Option<Row>, AllocError>
     requires { row_fits sum.now ≡ true }
     ensures { IsCheckedSum sum.now times row.now result }
 {

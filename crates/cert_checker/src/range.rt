@@ -10,6 +10,7 @@ use std::alloc::{AllocError, Global};
 use terms::{Fact, Form, Sort, Sym, Term};
 
 const INT_MIN: i128 = -2147483648;
+
 const INT_MAX: i128 = 2147483647;
 
 fn sort_bounds(sort: Sort) -> Option<(i128, i128)>

@@ -36,13 +36,8 @@ fn may_round(alloc: Global, by: i128, row: &Row) -> bool
     is_small(alloc, by) && divides_all(by, row.parts.as_slice())
 }
 
-/// The part divided, as a term. Every part of the row has an atom.
-fn part_term(
-    alloc: Global,
-    atoms: &[Term],
-    by: i128,
-    part: (u32, i128),
-) -> Result<Term, AllocError>
+/// The part divided, as a term. An atom that isn't there counts as 0; rows of combinations have none.
+fn part_term(alloc: Global, atoms: &[Term], by: i128, part: (u32, i128)) -> Result<Term, AllocError>
     requires { pos 0 <ℤ by }
     ensures { IfOk result (λ made. made ≡ part_term atoms.now by part) }
 {
@@ -74,12 +69,7 @@ fn joined(
     Ok(sum)
 }
 
-fn rounded_row(
-    alloc: Global,
-    atoms: &[Term],
-    by: i128,
-    row: &Row,
-) -> Result<Form, AllocError>
+fn rounded_row(alloc: Global, atoms: &[Term], by: i128, row: &Row) -> Result<Form, AllocError>
     requires { pos 0 <ℤ by }
     ensures { IfOk result (λ made. made ≡ rounded_row atoms.now by row.now) }
 {

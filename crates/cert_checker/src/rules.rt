@@ -51,10 +51,7 @@ fn inner_form(alloc: Global, form: &FormRef<'_>) -> Result<Vec<Vec<Fact>>, Alloc
     one_child(alloc, facts)
 }
 
-fn denied_parts(
-    alloc: Global,
-    form: &FormRef<'_>,
-) -> Result<Option<Vec<Vec<Fact>>>, AllocError>
+fn denied_parts(alloc: Global, form: &FormRef<'_>) -> Result<Option<Vec<Vec<Fact>>>, AllocError>
     ensures { IfOk result (λ made. option_map seen made ≡ as_facts (both_parts (denied form.now))) }
 {
     match form.view() {
@@ -69,10 +66,7 @@ fn denied_parts(
 }
 
 /// What Both adds.
-pub(crate) fn parts(
-    alloc: Global,
-    form: &Form,
-) -> Result<Option<Vec<Vec<Fact>>>, AllocError>
+pub(crate) fn parts(alloc: Global, form: &Form) -> Result<Option<Vec<Vec<Fact>>>, AllocError>
     ensures { IfOk result (λ made. option_map seen made ≡ as_facts (both_parts form.now)) }
 {
     match form.view() {
@@ -122,10 +116,7 @@ fn either_order(
     two_children(alloc, one, other)
 }
 
-fn denied_cases(
-    alloc: Global,
-    form: &FormRef<'_>,
-) -> Result<Option<Vec<Vec<Fact>>>, AllocError>
+fn denied_cases(alloc: Global, form: &FormRef<'_>) -> Result<Option<Vec<Vec<Fact>>>, AllocError>
     ensures { IfOk result (λ made. option_map seen made ≡ as_facts (each_case (denied form.now))) }
 {
     match form.view() {
@@ -140,10 +131,7 @@ fn denied_cases(
 }
 
 /// What Case adds.
-pub(crate) fn cases(
-    alloc: Global,
-    form: &Form,
-) -> Result<Option<Vec<Vec<Fact>>>, AllocError>
+pub(crate) fn cases(alloc: Global, form: &Form) -> Result<Option<Vec<Vec<Fact>>>, AllocError>
     ensures { IfOk result (λ made. option_map seen made ≡ as_facts (each_case form.now)) }
 {
     match form.view() {
