@@ -1,7 +1,6 @@
 -- Branches that share facts.
-use Rattle.std.proofs.Common.{◌≡◌, ◌∙◌, ℕ, ◌+◌, ◌<◌, ◌≤◌, zero, suc, min, Bool, true, false, List, [], ◌∷◌, ◌++◌, reverse, length, take, drop, map, Option, Some, None, Result, Ok, Err, ap, ap₂, sym, subst, refl, arith, append_assoc}
-use Rattle.std.proofs.lemmas.List.{reverse-append, append-nil, length-append}
-use Rattle.std.specs.declared.alloc.AllocError.{AllocError}
+use Rattle.std.proofs.Common.{◌≡◌, ◌∙◌, ℕ, ◌≤◌, zero, suc, true, false, List, [], ◌∷◌, ◌++◌, reverse, length, take, map, Option, Some, None, Ok, ap, ap₂, sym, subst, refl, arith}
+use Rattle.std.proofs.lemmas.List.{reverse-append}
 use Rattle.terms.specs.declared.fact.Fact.{Fact}
 use Rattle.terms.specs.declared.sequent.Sort.{Sort}
 use Rattle.terms.specs.declared.sym.Sym.{Sym}

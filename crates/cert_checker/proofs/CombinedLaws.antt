@@ -1,19 +1,18 @@
 -- Combinations over numbered atoms.
-use Rattle.std.proofs.Common.{◌≡◌, ◌∙◌, ℕ, ◌+◌, ◌<◌, ℤ, pos, negsuc, ◌+ℤ◌, ◌*ℤ◌, Bool, true, false, ◌&&◌, ◌||◌, if◌then◌else◌, int_le, List, [], ◌∷◌, ◌++◌, drop, length, get_or, Option, Some, None, Result, Ok, Err, ap, ap₂, sym, subst, refl, arith}
+use Rattle.std.proofs.Common.{◌≡◌, ◌∙◌, ℕ, ℤ, pos, Bool, true, false, ◌&&◌, ◌||◌, if◌then◌else◌, int_le, List, [], ◌∷◌, Option, Some, None, Result, Ok, Err, ap, ap₂, sym, subst, refl}
 use Rattle.std.specs.Prelude.{option_and_then}
 use Rattle.std.specs.declared.alloc.AllocError.{AllocError}
 use Rattle.linear_rows.specs.declared.row.Row.{Row}
 use Rattle.linear_rows.specs.Sums.{row_fits, plus_times}
 use Rattle.terms.specs.declared.fact.Fact.{Fact}
 use Rattle.terms.specs.Trees.{TermTree}
-use Rattle.terms.specs.Valuations.{is_small}
 use Rattle.cert_checker.specs.Linear.{Multiple, Sum, scaled_multiples}
-use Rattle.cert_checker.specs.Rows.{Line, line_is_small, row_at, nothing, plus_multiple, may_be_added, checked_plus, added, combination}
+use Rattle.cert_checker.specs.Rows.{Line, row_at, nothing, plus_multiple, may_be_added, checked_plus, added, combination}
 use Rattle.cert_checker.specs.Numbering.{has_atom, with_atom, with_atoms, IsRow}
 use Rattle.cert_checker.specs.Code.SumRows.{have_numbers, IsSumRow}
 use Rattle.cert_checker.specs.Code.Steps.{number_row, Grown}
 use Rattle.cert_checker.specs.Code.Combined.{IsRowAt, may_add, IsCheckedSum, sum_for, IsCombined, Combines, next_line, AddsTo, IsAdding}
-use Rattle.cert_checker.proofs.Choices.{by_bool, and_left, and_right, and_true}
+use Rattle.cert_checker.proofs.Choices.{and_right, and_true}
 use Rattle.cert_checker.proofs.NumberingLaws.{row-grown, plus-is, number-is, has-grown}
 use Rattle.cert_checker.proofs.SizeLaws.{row-size, small-fits}
 use Rattle.cert_checker.proofs.GoalLaws.{with_atoms-append, with_atoms-scaled, has-with}

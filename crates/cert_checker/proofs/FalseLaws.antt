@@ -1,7 +1,6 @@
 -- A combination is false exactly where its row is.
-use Rattle.std.proofs.Common.{◌≡◌, ◌∙◌, ℕ, zero, suc, ℤ, pos, negsuc, Bool, true, false, not, ◌&&◌, ◌||◌, int_lt, List, [], ◌∷◌, map, Option, Some, None, Result, Ok, Err, ap, ap₂, sym, subst, refl, inl, inr}
+use Rattle.std.proofs.Common.{◌≡◌, ◌∙◌, ℕ, ℤ, pos, Bool, true, false, not, ◌&&◌, ◌||◌, int_lt, List, [], ◌∷◌, map, Some, Ok, ap, ap₂, sym, refl, inl, inr}
 use Rattle.std.specs.List.{list_all}
-use Rattle.std.specs.declared.alloc.AllocError.{AllocError}
 use Rattle.linear_rows.specs.declared.row.Row.{Row}
 use Rattle.linear_rows.specs.Numbers.{is_zero}
 use Rattle.linear_rows.specs.Sums.{Part, From, coefficient}
@@ -13,12 +12,12 @@ use Rattle.cert_checker.specs.Linear.{coefficient as term_coefficient}
 use Rattle.cert_checker.specs.Rows.{Line, combination, is_constant, is_false}
 use Rattle.cert_checker.specs.Rules.{closes_by_sum}
 use Rattle.cert_checker.specs.Numbering.{atom_number, has_atom, at_point}
-use Rattle.cert_checker.specs.Code.SumRows.{have_numbers, IsSumRow}
+use Rattle.cert_checker.specs.Code.SumRows.{IsSumRow}
 use Rattle.cert_checker.specs.Code.Combined.{sum_for, IsCombined, Combines}
 use Rattle.cert_checker.specs.Code.Closing.{is_nil, row_is_false}
 use Rattle.cert_checker.proofs.Choices.{by_bool, and_left, and_right, and_true}
 use Rattle.cert_checker.proofs.CombinationLaws.{zero-is}
-use Rattle.cert_checker.proofs.SizeLaws.{HasNumber, numbers-found, row-coefficient, coefficient-number, is_among, absent, among-atoms, all-has, atoms-numbered, coefficient-first, same-bool}
+use Rattle.cert_checker.proofs.SizeLaws.{numbers-found, row-coefficient, coefficient-number, is_among, absent, among-atoms, all-has, atoms-numbered, coefficient-first, same-bool}
 
 abbrev zero_in : List Multiple → TermTree → Bool
 zero_in ms t = is_zero (term_coefficient t ms)

@@ -1,24 +1,14 @@
 -- What rows say of forms, and what combinations of rows say.
-use Rattle.std.proofs.Common.{◌≡◌, ◌∙◌, ℕ, ℤ, pos, negsuc, neg_ℤ, ◌+ℤ◌, ◌-ℤ◌, ◌*ℤ◌, ◌≤ℤ◌, ◌<ℤ◌, int_le, int_lt, Bool, true, false, not, ◌&&◌, ◌||◌, if◌then◌else◌, IsTrue, List, [], ◌∷◌, ◌++◌, map, Option, Some, None, ap, ap₂, sym, subst, refl, arith, ◌⊎◌, inl, inr, ◌↔◌, All, get_or}
-use Rattle.std.specs.Prelude.{option_and_then, slice_get}
-use Rattle.std.specs.List.{list_all}
-use Rattle.std.specs.Ordering.{int_eq}
+use Rattle.std.proofs.Common.{◌≡◌, ◌∙◌, ℤ, pos, negsuc, neg_ℤ, ◌+ℤ◌, ◌-ℤ◌, ◌≤ℤ◌, ◌<ℤ◌, int_le, Bool, true, false, not, if◌then◌else◌, IsTrue, Some, None, ap, ap₂, sym, subst, refl, arith, ◌↔◌}
 use Rattle.std.proofs.lemmas.Int.{ints}
 use Rattle.std.proofs.lemmas.Bool.Decides.{Decides-int_eq}
-use Rattle.std.proofs.lemmas.Option.{option_and_then_some, get_or_from_slice_get, slice_get_within, same_Some}
-use Rattle.std.proofs.Math.IntN.{zero-*ℤ}
-use Rattle.linear_rows.specs.Numbers.{is_zero}
-use Rattle.linear_rows.proofs.Ring.{mul-le}
-use Rattle.terms.specs.declared.fact.Fact.{Fact}
-use Rattle.terms.specs.Trees.{TermTree, FormTree, always, never, at_most, equal, denied, both, either}
-use Rattle.terms.specs.declared.fact.Fact.TheVariants as fact
-use Rattle.terms.specs.Truth.{Interpretation, term_at, form_at, FactAt}
-use Rattle.cert_checker.specs.Linear.{Multiple, Sum, scaled_multiples, number_sum, scaled_sum, total, difference, sum_of, coefficients}
-use Rattle.cert_checker.specs.Rows.{Line, at_most_zero, equal_to_zero, line_of, has_small_numbers, row_of, form_of, plain_at, row_at, nothing, plus_multiple, may_be_added, checked_plus, added, combination, is_constant, is_false}
+use Rattle.std.proofs.lemmas.Option.{option_and_then_some, same_Some}
+use Rattle.terms.specs.Trees.{TermTree, FormTree, at_most, equal, denied}
+use Rattle.terms.specs.Truth.{Interpretation, term_at, form_at}
+use Rattle.cert_checker.specs.Linear.{Sum, number_sum, scaled_sum, total, difference, sum_of}
+use Rattle.cert_checker.specs.Rows.{Line, at_most_zero, equal_to_zero, line_of, has_small_numbers, row_of}
 use Rattle.cert_checker.specs.Worth.{worth, sum_at, LineAt}
-use Rattle.cert_checker.proofs.Choices.{and_left, and_right}
-use Rattle.cert_checker.proofs.WorthLaws.{worth-append, worth-scaled, sum_at-total, sum_at-scaled, sum_at-difference, minus-one, term_at-sum_of}
-use Rattle.cert_checker.proofs.CoefficientLaws.{worth-coefficients}
+use Rattle.cert_checker.proofs.WorthLaws.{sum_at-total, sum_at-scaled, sum_at-difference, minus-one, term_at-sum_of}
 
 -- ---- rows of forms
 

@@ -1,28 +1,25 @@
 -- The parts of a row are the multiples with coefficients other than 0, in the order of their first places.
-use Rattle.std.proofs.Common.{◌≡◌, ◌∙◌, ℕ, ◌+◌, ◌<◌, ◌≤◌, ◌%◌, zero, suc, ℤ, pos, negsuc, Bool, true, false, not, ◌&&◌, ◌||◌, cond, if◌then◌else◌, nat_eq, nat_lt, List, [], ◌∷◌, ◌++◌, map, filter, length, get_or, ap, ap₂, sym, subst, refl, arith, ◌⊎◌, inl, inr}
-use Rattle.std.specs.List.{list_all, list_any, AllByRecursion, IsDistinct}
-use Rattle.std.specs.Int.{int_div_euclid, int_rem_euclid}
-use Rattle.std.proofs.lemmas.Int.{ints}
+use Rattle.std.proofs.Common.{◌≡◌, ◌∙◌, ℕ, ◌+◌, ◌<◌, ◌≤◌, zero, suc, ℤ, Bool, true, false, not, ◌&&◌, ◌||◌, cond, if◌then◌else◌, nat_eq, nat_lt, List, [], ◌∷◌, ◌++◌, map, filter, length, get_or, ap, ap₂, sym, subst, refl, arith, inl, inr}
+use Rattle.std.specs.List.{AllByRecursion, IsDistinct}
 use Rattle.std.proofs.lemmas.List.{append-nil}
 use Rattle.std.proofs.lemmas.List.Folds.{list_any-append}
 use Rattle.linear_rows.specs.declared.row.Row.{Row}
 use Rattle.linear_rows.specs.Numbers.{is_zero}
 use Rattle.linear_rows.specs.Sums.{Part, From, coefficient}
-use Rattle.linear_rows.proofs.FormLaws.{unit, From-lower}
+use Rattle.linear_rows.proofs.FormLaws.{unit}
 use Rattle.terms.specs.Equality.{same_term}
 use Rattle.terms.specs.Code.EqualityLaws.{same_term-equal, same_term-refl}
-use Rattle.terms.specs.Trees.{TermTree, number}
-use Rattle.cert_checker.specs.Linear.{Multiple, Sum, atoms, coefficients}
+use Rattle.terms.specs.Trees.{TermTree}
+use Rattle.cert_checker.specs.Linear.{Multiple, atoms, coefficients}
 use Rattle.cert_checker.specs.Linear.{coefficient as term_coefficient}
 use Rattle.cert_checker.specs.Rows.{Line}
-use Rattle.cert_checker.specs.Numbering.{atom_number, has_atom, with_atom, with_atoms, at_point}
-use Rattle.cert_checker.specs.Code.SumRows.{IsSumRow}
+use Rattle.cert_checker.specs.Numbering.{atom_number, has_atom, with_atoms, at_point}
 use Rattle.cert_checker.specs.Code.Combined.{sum_for, IsCombined}
 use Rattle.cert_checker.specs.Code.Rounding.{zero_term, multiple_of}
-use Rattle.cert_checker.proofs.Choices.{by_bool, and_left, and_right, and_true, or_left, or_right}
+use Rattle.cert_checker.proofs.Choices.{by_bool}
 use Rattle.cert_checker.proofs.NumberingLaws.{number-first, number-later}
 use Rattle.cert_checker.proofs.PlaceInAtoms.{number-below}
-use Rattle.cert_checker.proofs.SizeLaws.{HasNumber, numbers-found, row-coefficient, coefficient-number, coefficient-first, coefficient-before}
+use Rattle.cert_checker.proofs.SizeLaws.{numbers-found, row-coefficient, coefficient-number, coefficient-first, coefficient-before}
 use Rattle.cert_checker.proofs.DistinctLaws.{distinct-atoms}
 
 -- ---- numbered atoms are the atoms in order

@@ -1,5 +1,5 @@
 -- Where an atom stands among numbered ones.
-use Rattle.std.proofs.Common.{◌≡◌, ◌∙◌, ℕ, ◌+◌, ◌<◌, zero, suc, Bool, true, false, not, ◌||◌, cond, if◌then◌else◌, nat_lt, List, [], ◌∷◌, ◌++◌, length, Option, Some, None, ap, sym, refl, arith}
+use Rattle.std.proofs.Common.{◌≡◌, ◌∙◌, ℕ, ◌+◌, suc, Bool, true, false, ◌||◌, cond, if◌then◌else◌, nat_lt, List, [], ◌∷◌, ◌++◌, length, Some, None, ap, sym, refl, arith}
 use Rattle.std.specs.List.{position}
 use Rattle.std.proofs.lemmas.Option.{cond_some}
 use Rattle.terms.specs.Equality.{same_term}

@@ -1,5 +1,5 @@
 -- The first entry of a list that gives something.
-use Rattle.std.proofs.Common.{◌≡◌, ◌∙◌, zero, Bool, true, false, cond, List, [], ◌∷◌, Option, Some, None, filter_map, ap, sym, refl}
+use Rattle.std.proofs.Common.{◌≡◌, ◌∙◌, cond, List, [], ◌∷◌, Option, Some, None, filter_map, ap, refl}
 use Rattle.std.specs.Prelude.{slice_get, find, is_some, option_and_then}
 use Rattle.std.specs.List.{cons_option}
 

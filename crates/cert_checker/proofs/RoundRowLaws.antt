@@ -1,18 +1,17 @@
 -- Rounding a combination is rounding its row.
-use Rattle.std.proofs.Common.{◌≡◌, ◌∙◌, ℕ, ◌+◌, ◌<◌, ◌%◌, zero, suc, ℤ, pos, negsuc, ◌<ℤ◌, int_lt, Bool, true, false, not, ◌&&◌, cond, if◌then◌else◌, List, [], ◌∷◌, map, filter, get_or, Option, Some, None, Result, Ok, Err, IfOk, ap, ap₂, sym, subst, refl, arith}
+use Rattle.std.proofs.Common.{◌≡◌, ◌∙◌, ℕ, ◌%◌, zero, suc, ℤ, pos, negsuc, int_lt, Bool, true, false, not, ◌&&◌, cond, if◌then◌else◌, List, [], ◌∷◌, map, filter, Option, Some, None, Result, Ok, Err, IfOk, ap, ap₂, sym, refl, arith}
 use Rattle.std.specs.Prelude.{option_and_then, option_map}
 use Rattle.std.specs.List.{list_all}
-use Rattle.std.specs.Int.{int_div_euclid, int_rem_euclid}
-use Rattle.std.proofs.lemmas.Int.{ints}
+use Rattle.std.specs.Int.{int_div_euclid}
 use Rattle.linear_rows.specs.declared.row.Row.{Row}
 use Rattle.linear_rows.specs.Numbers.{is_zero}
 use Rattle.linear_rows.specs.Sums.{Part}
 use Rattle.terms.specs.declared.fact.Fact.{Fact}
-use Rattle.terms.specs.Trees.{TermTree, FormTree, number, at_most}
+use Rattle.terms.specs.Trees.{TermTree, number, at_most}
 use Rattle.terms.specs.Valuations.{is_small}
 use Rattle.cert_checker.specs.Linear.{Multiple, coefficients}
 use Rattle.cert_checker.specs.Rows.{Line, combination}
-use Rattle.cert_checker.specs.Rules.{Children, divides, may_round, divided_term, joined, rounded, round}
+use Rattle.cert_checker.specs.Rules.{divides, may_round, divided_term, joined, rounded, round}
 use Rattle.cert_checker.specs.Code.Combined.{IsCombined, Combines}
 use Rattle.cert_checker.specs.Code.Made.{as_facts}
 use Rattle.std.specs.declared.alloc.AllocError.{AllocError}

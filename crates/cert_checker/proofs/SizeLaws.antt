@@ -1,22 +1,21 @@
 -- A row of a sum is within sizes exactly where the sum is.
-use Rattle.std.proofs.Common.{◌≡◌, ◌∙◌, ℕ, ◌+◌, ◌<◌, ◌≤◌, ◌^◌, zero, suc, ℤ, pos, negsuc, ◌+ℤ◌, ◌*ℤ◌, Bool, true, false, not, ◌&&◌, ◌||◌, cond, if◌then◌else◌, nat_eq, nat_le, nat_lt, List, [], ◌∷◌, ◌++◌, map, filter, ap, ap₂, sym, subst, refl, arith, ◌⊎◌, inl, inr, lit<}
+use Rattle.std.proofs.Common.{◌≡◌, ◌∙◌, ℕ, ◌<◌, ◌^◌, suc, ℤ, pos, negsuc, ◌+ℤ◌, ◌*ℤ◌, Bool, true, false, not, ◌&&◌, ◌||◌, cond, if◌then◌else◌, nat_eq, nat_le, List, [], ◌∷◌, map, filter, ap, ap₂, sym, refl, arith, ◌⊎◌, inl, inr, lit<}
 use Rattle.std.proofs.lemmas.Bool.Decides.{nat_tests}
 use Rattle.std.specs.Prelude.{unsigned_abs}
 use Rattle.std.specs.List.{list_any, list_all}
 use Rattle.std.proofs.lemmas.Int.{ints}
-use Rattle.std.proofs.Math.IntN.{zero-*ℤ, *ℤ-zero}
+use Rattle.std.proofs.Math.IntN.{*ℤ-zero}
 use Rattle.linear_rows.specs.declared.row.Row.{Row}
 use Rattle.linear_rows.specs.Numbers.{fits}
-use Rattle.linear_rows.specs.Sums.{Part, From, all_fit, row_fits, coefficient, dot}
+use Rattle.linear_rows.specs.Sums.{Part, From, all_fit, row_fits, coefficient}
 use Rattle.linear_rows.proofs.Ring.{times-one}
 use Rattle.linear_rows.proofs.FormLaws.{unit, dot-unit}
 use Rattle.terms.specs.Equality.{same_term}
 use Rattle.terms.specs.Code.EqualityLaws.{same_term-equal, same_term-refl}
 use Rattle.terms.specs.Trees.{TermTree}
 use Rattle.terms.specs.Valuations.{is_small}
-use Rattle.cert_checker.specs.Linear.{Multiple, Sum, atoms, coefficients, are_small, sum_is_small}
+use Rattle.cert_checker.specs.Linear.{Multiple, Sum, atoms, are_small, sum_is_small}
 use Rattle.cert_checker.specs.Linear.{coefficient as term_coefficient}
-use Rattle.cert_checker.specs.Worth.{weighed}
 use Rattle.cert_checker.specs.Numbering.{atom_number, has_atom, at_point}
 use Rattle.cert_checker.specs.Code.SumRows.{have_numbers, IsSumRow}
 use Rattle.cert_checker.proofs.Choices.{by_bool, and_left, and_right, and_true}

@@ -1,5 +1,5 @@
 -- Rows that are false.
-use Rattle.std.specs.Prelude.{ℤ, pos, Bool, true, false, not, ◌&&◌, ◌||◌, int_lt, List, [], ◌∷◌}
+use Rattle.std.specs.Prelude.{pos, Bool, true, false, not, ◌&&◌, ◌||◌, int_lt, List, [], ◌∷◌}
 use Rattle.linear_rows.specs.declared.row.Row.{Row}
 use Rattle.linear_rows.specs.Numbers.{is_zero}
 use Rattle.linear_rows.specs.Sums.{Part}

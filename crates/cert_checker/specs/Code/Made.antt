@@ -3,7 +3,6 @@ use Rattle.std.specs.Prelude.{List, map, Option, option_map, Vec}
 use Rattle.std.specs.declared.alloc.Global.{Global}
 use Rattle.terms.specs.declared.fact.Fact.{Fact}
 use Rattle.terms.specs.declared.fact.Fact.TheVariants as fact
-use Rattle.terms.specs.Trees.{FormTree}
 use Rattle.cert_checker.specs.Rules.{Children}
 
 abbrev pub seen : Vec (Vec Fact Global) Global → List (List Fact)

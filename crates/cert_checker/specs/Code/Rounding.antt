@@ -1,10 +1,10 @@
 -- Rounding of rows over numbered atoms.
-use Rattle.std.specs.Prelude.{ℕ, ℤ, pos, Bool, ◌&&◌, int_lt, if◌then◌else◌, List, [], ◌∷◌, Option, None, map, get_or}
+use Rattle.std.specs.Prelude.{ℤ, pos, Bool, ◌&&◌, int_lt, if◌then◌else◌, List, [], ◌∷◌, None, map, get_or}
 use Rattle.std.specs.List.{list_all}
 use Rattle.std.specs.Int.{int_div_euclid, int_rem_euclid}
 use Rattle.linear_rows.specs.Numbers.{is_zero}
 use Rattle.linear_rows.specs.Sums.{Part}
-use Rattle.terms.specs.Trees.{TermTree, FormTree, number, times, at_most}
+use Rattle.terms.specs.Trees.{TermTree, FormTree, number, at_most}
 use Rattle.terms.specs.Valuations.{is_small}
 use Rattle.linear_rows.specs.declared.row.Row.{Row}
 use Rattle.cert_checker.specs.Linear.{Multiple}

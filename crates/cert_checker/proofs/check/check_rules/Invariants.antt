@@ -1,6 +1,5 @@
-use Rattle.std.proofs.Common.{◌≡◌, List, drop, reverse, length}
-use Rattle.cert_checker.specs.Checks.{checks}
-use Rattle.cert_checker.specs.Code.Branches.{seen_branches, all_facts, AreShared, IsChecking}
+use Rattle.std.proofs.Common.{drop, reverse}
+use Rattle.cert_checker.specs.Code.Branches.{seen_branches, IsChecking}
 use Rattle.cert_checker.proofs.check.check_rules.Given as goal
 
 abbrev pub invariant-loop-rule : goal.invariant-loop-rule

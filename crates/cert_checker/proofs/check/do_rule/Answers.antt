@@ -1,4 +1,4 @@
-use Rattle.std.proofs.Common.{◌≡◌, length, rules, ap, Some}
+use Rattle.std.proofs.Common.{◌≡◌, length, rules, ap}
 use Rattle.std.specs.Prelude.{option_map}
 use Rattle.cert_checker.specs.Code.Made.{seen}
 use Rattle.cert_checker.proofs.BranchLaws.{done-answer}

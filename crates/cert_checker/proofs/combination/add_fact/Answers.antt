@@ -1,4 +1,4 @@
-use Rattle.std.proofs.Common.{subst, to_z, of_z, Some, Ok}
+use Rattle.std.proofs.Common.{subst, Ok}
 use Rattle.std.specs.Int.{w128}
 use Rattle.std.proofs.lemmas.Int.{to_z-of_z}
 use Rattle.cert_checker.specs.Code.Combined.{IsRowAt, IsCheckedSum}

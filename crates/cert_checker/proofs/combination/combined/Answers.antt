@@ -1,9 +1,9 @@
-use Rattle.std.proofs.Common.{◌≡◌, ◌∙◌, ℕ, ℤ, pos, ◌+◌, ◌∷◌, List, get_or, drop, sym, subst, ap, Ok, Some, None, add-one, FitsSigned, rules}
+use Rattle.std.proofs.Common.{◌≡◌, ◌∙◌, ℕ, ℤ, pos, ◌+◌, ◌∷◌, get_or, drop, sym, subst, ap, Ok, Some, None, add-one, FitsSigned, rules}
 use Rattle.std.specs.Int.{w128}
 use Rattle.std.proofs.lemmas.Int.{to_z-of_z}
 use Rattle.std.proofs.Math.Seq.{drop-cons}
 use Rattle.cert_checker.specs.Rows.{added, combination}
-use Rattle.cert_checker.specs.Code.Combined.{AddsTo, IsAdding}
+use Rattle.cert_checker.specs.Code.Combined.{AddsTo}
 use Rattle.cert_checker.proofs.CombinedLaws.{begins, goes-on, stops}
 use Rattle.cert_checker.proofs.combination.combined.Goals as goal
 
