@@ -1,5 +1,5 @@
 -- A sequent whose certificate checks is valid, and rules that check for the children of a rule check behind it.
-use Rattle.std.proofs.Common.{◌≡◌, ◌∙◌, ℤ, pos, ◌+ℤ◌, ◌≤ℤ◌, ◌<ℤ◌, int_le, Bool, true, false, not, ◌&&◌, ◌||◌, if◌then◌else◌, IsTrue, List, [], ◌∷◌, ◌++◌, map, filter, Option, Some, None, ap, ap₂, sym, subst, refl, arith, All, append_assoc}
+use Rattle.std.proofs.Common.{◌≡◌, ◌∙◌, ℤ, pos, ◌+ℤ◌, ◌≤ℤ◌, ◌<ℤ◌, int_le, Bool, true, false, not, ◌||◌, if◌then◌else◌, IsTrue, List, [], ◌∷◌, ◌++◌, map, filter, Option, Some, None, ap, sym, subst, refl, arith, All, append_assoc}
 use Rattle.std.specs.List.{list_any, AllZip}
 use Rattle.std.proofs.lemmas.Int.{ints}
 use Rattle.std.proofs.lemmas.List.Elements.{All-nil, All-cons, All-head, All-tail, All-append, All-filter, All-weaker}
@@ -12,17 +12,17 @@ use Rattle.terms.specs.declared.sequent.Sort.{Sort}
 use Rattle.terms.specs.declared.sequent.Sort.TheVariants as sort
 use Rattle.terms.specs.declared.sym.Sym.{Sym}
 use Rattle.terms.specs.Symbols.{same_sym}
-use Rattle.terms.specs.Names.{Occurrence, as_number, as_array, symbol, is_number, term_names, form_names, fact_names, occurs_among, occurs_in_fact, occurs_in_sequent}
+use Rattle.terms.specs.Names.{Occurrence, as_number, as_array, symbol, is_number, term_names, form_names, occurs_among, occurs_in_fact, occurs_in_sequent}
 use Rattle.terms.specs.Trees.{TermTree, name, plus, FormTree, at_most, denied}
 use Rattle.terms.specs.Truth.{Interpretation, with_value, term_at, form_at, FactAt, AgreesAt}
 use Rattle.terms.specs.Replacing.{number_by, replaced_form}
 use Rattle.terms.specs.Validity.{HasSort, InRange, Valid}
-use Rattle.terms.specs.Code.SymbolLaws.{same_sym-equal, same_sym-refl}
+use Rattle.terms.specs.Code.SymbolLaws.{same_sym-refl}
 use Rattle.cert_form.specs.declared.cert.Rule.{Rule}
 use Rattle.cert_form.specs.declared.cert.Cert.{Cert}
 use Rattle.cert_checker.specs.Rules.{one, children}
 use Rattle.cert_checker.specs.Fails.{Fails}
-use Rattle.cert_checker.specs.Checks.{fresh, denied_fact, opening, goes_on, checks, one_after_another, has_fresh_name, checks_sequent, Checks}
+use Rattle.cert_checker.specs.Checks.{fresh, denied_fact, opening, goes_on, checks, one_after_another, has_fresh_name, Checks}
 use Rattle.cert_checker.proofs.Choices.{by_bool, and_left, and_right, or_left, or_right, All-left, All-right, All-none}
 use Rattle.terms.proofs.NameLaws.{form_at-agree, term_at-agree, FactAt-agree, AgreesAt-both}
 use Rattle.terms.proofs.ReplacingLaws.{form_at-number_by}
@@ -141,10 +141,11 @@ denied-at v z x lo hi f n none from to is =
     let body : form_at w (replaced_form (number_by x (name z)) f) ≡ form_at (with_value v x n) f =
     form_at-number_by x (name z) w f ∙ ap (λ k. form_at (with_value w x k) f) (own-value v z n)
     ∙ sym (form_at-agree (with_value v x n) (with_value w x n) f
-    (All-weaker P (AgreesAt (with_value v x n) (with_value w x n)) (λ o same. AgreesAt-both v w x n o (λ e. same)) (form_names f) parts.body)) in
-    (low-test (term_at w lo) (w.value z) n (subst (λ a. a ≤ℤ n) (sym low) from) (own-value v z n),
-    high-test (w.value z) (term_at w hi) n (subst (λ b. n <ℤ b) (sym high) to) (own-value v z n),
-    ap not (body ∙ is))
+    (All-weaker P (AgreesAt (with_value v x n) (with_value w x n)) (λ o same. AgreesAt-both v w x n o (λ e. same)) (form_names f) parts.body)) in (
+      low-test (term_at w lo) (w.value z) n (subst (λ a. a ≤ℤ n) (sym low) from) (own-value v z n),
+      high-test (w.value z) (term_at w hi) n (subst (λ b. n <ℤ b) (sym high) to) (own-value v z n),
+      ap not (body ∙ is),
+    )
 
 plain-goal : (v : Interpretation) (s : Sequent) (f : FormTree) → s.goal ≡ fact.Plain f → Fails v (opening s) → All (FactAt v) s.hyps → FactAt v (fact.Plain f)
 plain-goal v s f is fail hyps = by_bool (form_at v f) (λ e. e)

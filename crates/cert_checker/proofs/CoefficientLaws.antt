@@ -94,7 +94,7 @@ share-whole f m [] h = absurd cc
 share-whole f m (p ∷ ps) h = by_bool (same_term p.0 m.0)
     (λ e. let same : p.0 ≡ m.0 = same_term-equal p.0 m.0 e in
     sum-zero (given p.0 m *ℤ f p.0) (share f m (filter (λ t. not (same_term p.0 t)) (atoms ps)))
-        (subst (λ u. share f m (filter (λ t. not (same_term u t)) (atoms ps)) ≡ pos 0) (sym same) (share-without f m (atoms ps)))
+    (subst (λ u. share f m (filter (λ t. not (same_term u t)) (atoms ps)) ≡ pos 0) (sym same) (share-without f m (atoms ps)))
     ∙ ap₂ (λ y u. y *ℤ f u) (given-same p.0 m e) same)
     (λ e. zero-first (given p.0 m *ℤ f p.0) (share f m (filter (λ t. not (same_term p.0 t)) (atoms ps))) (none f p.0 m e)
     ∙ share-without-other f m p.0 e (atoms ps) ∙ share-whole f m ps (or-other (same_term p.0 m.0) (is_among m ps) h e))

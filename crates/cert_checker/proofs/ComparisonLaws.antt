@@ -1,5 +1,5 @@
 -- The rows of comparisons.
-use Rattle.std.proofs.Common.{◌≡◌, ◌∙◌, ℕ, zero, suc, ℤ, pos, negsuc, neg_ℤ, ◌+ℤ◌, Bool, true, false, ◌&&◌, List, [], ◌∷◌, ◌++◌, reverse, Option, Some, None, Result, Ok, Err, ap, ap₂, sym, subst, refl}
+use Rattle.std.proofs.Common.{◌≡◌, ◌∙◌, zero, suc, ℤ, pos, negsuc, neg_ℤ, Bool, true, false, ◌&&◌, List, [], ◌∷◌, ◌++◌, reverse, Option, Some, None, Ok, Err, ap, ap₂, sym, subst, refl}
 use Rattle.std.specs.Prelude.{unsigned_abs, option_and_then, is_some, if◌then◌else◌}
 use Rattle.std.specs.List.{list_all}
 use Rattle.std.proofs.lemmas.List.{append-nil}
@@ -8,8 +8,8 @@ use Rattle.linear_rows.specs.declared.row.Row.{Row}
 use Rattle.linear_rows.specs.declared.row.RowFail.{RowFail}
 use Rattle.linear_rows.specs.declared.row.RowFail.TheVariants.{NoMemory, Wide}
 use Rattle.linear_rows.specs.Numbers.{fits}
-use Rattle.linear_rows.specs.Sums.{all_fit, row_fits}
-use Rattle.terms.specs.Trees.{TermTree, FormTree, always, never, at_most, equal, denied, both, either}
+use Rattle.linear_rows.specs.Sums.{all_fit}
+use Rattle.terms.specs.Trees.{TermTree, FormTree, at_most, equal, denied}
 use Rattle.terms.specs.Valuations.{is_small}
 use Rattle.cert_checker.specs.declared.row.Comparison.{Comparison}
 use Rattle.cert_checker.specs.declared.row.Relation.{Relation}
@@ -18,13 +18,13 @@ use Rattle.cert_checker.specs.declared.step.Step.{Step}
 use Rattle.cert_checker.specs.declared.step.Step.TheVariants as step
 use Rattle.cert_checker.specs.declared.step.Operation.{Operation}
 use Rattle.cert_checker.specs.Linear.{Multiple, Sum, scaled_multiples, difference, sum_of, sum_is_small, are_small, linear_terms}
-use Rattle.cert_checker.specs.Rows.{Line, line_is_small, line_of, linear_terms_of, has_small_numbers, row_of}
+use Rattle.cert_checker.specs.Rows.{Line, line_is_small, line_of, has_small_numbers, row_of}
 use Rattle.cert_checker.specs.Numbering.{with_atoms, IsRow, IsRowOf}
 use Rattle.cert_checker.specs.Code.Steps.{turned, sum_after, are_small_after, atoms_after, Goal, ComesTo, HasGoal, IsMade, Makes}
-use Rattle.cert_checker.specs.Code.Comparisons.{comparison_of, denied_comparison, operation_of, compared_sum, line_by, line_in, terms_are_small, is_small_comparison, IsCompared, is_equality, at_zero, steps_of}
+use Rattle.cert_checker.specs.Code.Comparisons.{comparison_of, operation_of, compared_sum, line_by, line_in, is_small_comparison, IsCompared, is_equality, at_zero, steps_of}
 use Rattle.cert_checker.proofs.Choices.{and_left, and_right, and_true}
 use Rattle.cert_checker.proofs.SizeLaws.{small-fits}
-use Rattle.cert_checker.proofs.GoalLaws.{with_atoms-append, with_atoms-scaled, and-true, and-turn}
+use Rattle.cert_checker.proofs.GoalLaws.{with_atoms-append, with_atoms-scaled, and-turn}
 
 same-size : (z : ℤ) → unsigned_abs (neg_ℤ z) ≡ unsigned_abs z
 same-size (pos zero) = refl
@@ -99,8 +99,11 @@ line-row relation.More s us row c atoms made = record { in_form = made.is_row.in
 line-row relation.Equal s us row c atoms made = record { in_form = made.is_row.in_form; fits = and_true (all_fit row.parts) (fits (neg_ℤ row.bound)) (and_left (all_fit row.parts) (fits row.bound) made.fits) (neg-fits row.bound ∙ and_right (all_fit row.parts) (fits row.bound) made.fits); parts = made.is_row.parts; bound = ap neg_ℤ made.is_row.bound; equal = refl }
 
 pub compared-row : (c : Comparison) (old new : List TermTree) (sum row : Row) → row ≡ at_zero sum (is_equality c.relation) → IsMade (goal_of c old) sum new → IsCompared c old (Ok row) new
-compared-row c old new sum row is made = (subst (IsRow new (line_in c)) (sym is) (line-row c.relation (compared_sum c.relation c.left c.right) new sum c old made),
-    sym (small-is c old) ∙ made.small, made.atoms_are ∙ atoms-are c.relation c.left c.right old)
+compared-row c old new sum row is made = (
+  subst (IsRow new (line_in c)) (sym is) (line-row c.relation (compared_sum c.relation c.left c.right) new sum c old made),
+  sym (small-is c old) ∙ made.small,
+  made.atoms_are ∙ atoms-are c.relation c.left c.right old,
+)
 
 pub compared-fails : (c : Comparison) (old new : List TermTree) (fail : RowFail) → Makes (goal_of c old) (Err fail) new → IsCompared c old (Err fail) new
 compared-fails c old new Wide h = sym (small-is c old) ∙ h

@@ -1,5 +1,5 @@
 -- No atom has two numbers.
-use Rattle.std.proofs.Common.{◌≡◌, ◌∙◌, Bool, true, false, ◌||◌, if◌then◌else◌, List, [], ◌∷◌, ◌++◌, Option, Some, None, Result, Ok, Err, ap, sym, subst, refl}
+use Rattle.std.proofs.Common.{◌≡◌, Bool, true, false, if◌then◌else◌, List, [], ◌∷◌, ◌++◌, Option, Some, None, Result, Ok, Err, sym, subst, refl}
 use Rattle.std.specs.List.{AllByRecursion, IsDistinct}
 use Rattle.linear_rows.specs.declared.row.Row.{Row}
 use Rattle.linear_rows.specs.declared.row.RowFail.{RowFail}
@@ -8,7 +8,7 @@ use Rattle.terms.specs.Equality.{same_term}
 use Rattle.terms.specs.Trees.{TermTree, FormTree}
 use Rattle.cert_checker.specs.Linear.{Multiple}
 use Rattle.cert_checker.specs.Numbering.{has_atom, with_atom, with_atoms, IsRowOf}
-use Rattle.cert_checker.proofs.Choices.{by_bool, or_left, or_right}
+use Rattle.cert_checker.proofs.Choices.{or_left, or_right}
 
 differ-all : (t : TermTree) (us : List TermTree) → AllByRecursion (λ u. same_term t u ≡ false) us → (w : TermTree) → same_term t w ≡ false → AllByRecursion (λ u. same_term t u ≡ false) (us ++ (w ∷ []))
 differ-all t [] h w e = (e, tt)

@@ -1,30 +1,28 @@
 -- Steps come to the same where one of them is taken.
-use Rattle.std.proofs.Common.{◌≡◌, ◌∙◌, ℕ, ◌+◌, ◌<◌, ◌≤◌, zero, suc, ℤ, pos, negsuc, neg_ℤ, ◌+ℤ◌, ◌-ℤ◌, ◌*ℤ◌, Bool, true, false, ◌&&◌, ◌||◌, if◌then◌else◌, List, [], ◌∷◌, ◌++◌, reverse, length, map, Option, Some, None, Result, Ok, Err, ap, ap₂, sym, subst, refl, arith}
-use Rattle.std.specs.List.{list_all, list_any, AllZip}
+use Rattle.std.proofs.Common.{◌≡◌, ◌∙◌, ◌≤◌, ℤ, pos, negsuc, neg_ℤ, ◌+ℤ◌, ◌-ℤ◌, ◌*ℤ◌, Bool, true, false, ◌&&◌, if◌then◌else◌, List, [], ◌∷◌, ◌++◌, reverse, length, Some, Result, Ok, Err, ap, ap₂, sym, subst, refl, arith}
+use Rattle.std.specs.List.{list_all, AllZip}
 use Rattle.std.proofs.lemmas.Int.{ints}
 use Rattle.std.proofs.lemmas.List.{append-nil}
 use Rattle.std.proofs.lemmas.List.Folds.{list_all-append}
 use Rattle.linear_rows.specs.declared.row.Row.{Row}
 use Rattle.linear_rows.specs.declared.row.RowFail.{RowFail}
 use Rattle.linear_rows.specs.declared.row.RowFail.TheVariants.{NoMemory, Wide}
-use Rattle.linear_rows.specs.Numbers.{fits}
 use Rattle.linear_rows.specs.Sums.{row_fits, plus_times}
-use Rattle.terms.specs.Equality.{same_term}
 use Rattle.terms.specs.Trees.{TermTree, number, name, plus, minus, times, divided, remainder, read, truth}
 use Rattle.cert_checker.specs.declared.step.Step.{Step}
 use Rattle.cert_checker.specs.declared.step.Step.TheVariants as step
 use Rattle.cert_checker.specs.declared.step.Operation.{Operation}
 use Rattle.cert_checker.specs.declared.step.Operation.TheVariants as operation
-use Rattle.cert_checker.specs.Linear.{Multiple, Sum, scaled_multiples, number_sum, atom_sum, scaled_sum, total, difference, sum_of, is_number, linear_terms, sum_is_small}
+use Rattle.cert_checker.specs.Linear.{Multiple, Sum, scaled_multiples, number_sum, atom_sum, scaled_sum, total, difference, sum_of, linear_terms, sum_is_small}
 use Rattle.cert_checker.specs.Numbering.{atom_number, has_atom, with_atom, with_atoms, at_point}
 use Rattle.cert_checker.specs.Code.SumRows.{IsSumRow, have_numbers}
-use Rattle.cert_checker.specs.Code.Steps.{number_row, atom_row, turned, less_one, literal_of, operands, sums_behind, rows_behind, sum_behind, turn_behind, scale_behind, first_fits, first_small, sum_after, are_small_after, atoms_after, Goal, ComesTo, GoesOn, IsApplied, Shape, a_number, a_total, a_difference, a_multiple, an_atom, product_shape, shape_of, opened_steps, opened_rows, opened_atoms, opened_fits, IsOpen, IsOpened}
-use Rattle.cert_checker.proofs.Choices.{by_bool, and_left, and_right, and_true}
+use Rattle.cert_checker.specs.Code.Steps.{number_row, atom_row, turned, less_one, literal_of, operands, sums_behind, rows_behind, first_fits, first_small, sum_after, are_small_after, atoms_after, Goal, ComesTo, GoesOn, IsApplied, Shape, a_number, a_total, a_difference, a_multiple, an_atom, product_shape, shape_of, opened_steps, opened_rows, opened_atoms, opened_fits, IsOpened}
+use Rattle.cert_checker.proofs.Choices.{and_right, and_true}
 use Rattle.cert_checker.proofs.NumberingLaws.{row-grown, has-itself, number-is, atom-is, plus-is, total-is, scaled-is, numbers-scaled}
 use Rattle.cert_checker.proofs.WorthLaws.{weighed-append, weighed-scaled, minus-one}
 use Rattle.linear_rows.proofs.SumLaws.{dot-sums}
 use Rattle.linear_rows.proofs.FormLaws.{From-sums}
-use Rattle.cert_checker.proofs.SizeLaws.{row-size, small-fits}
+use Rattle.cert_checker.proofs.SizeLaws.{row-size}
 
 -- ---- atoms in order
 

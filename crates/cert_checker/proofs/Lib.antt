@@ -20,3 +20,10 @@ pub mod DistinctLaws
 pub mod ExchangeLaws
 pub mod FindLaws
 pub mod TruthLaws
+pub mod CombinedLaws
+pub mod FalseLaws
+pub mod RangeLaws
+pub mod BranchLaws
+pub mod OrderLaws
+pub mod RoundRowLaws
+pub mod PlaceFindLaws

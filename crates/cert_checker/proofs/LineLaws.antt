@@ -1,24 +1,14 @@
 -- What rows say of forms, and what combinations of rows say.
-use Rattle.std.proofs.Common.{◌≡◌, ◌∙◌, ℕ, ℤ, pos, negsuc, neg_ℤ, ◌+ℤ◌, ◌-ℤ◌, ◌*ℤ◌, ◌≤ℤ◌, ◌<ℤ◌, int_le, int_lt, Bool, true, false, not, ◌&&◌, ◌||◌, if◌then◌else◌, IsTrue, List, [], ◌∷◌, ◌++◌, map, Option, Some, None, ap, ap₂, sym, subst, refl, arith, ◌⊎◌, inl, inr, ◌↔◌, All, get_or}
-use Rattle.std.specs.Prelude.{option_and_then, slice_get}
-use Rattle.std.specs.List.{list_all}
-use Rattle.std.specs.Ordering.{int_eq}
+use Rattle.std.proofs.Common.{◌≡◌, ◌∙◌, ℤ, pos, negsuc, neg_ℤ, ◌+ℤ◌, ◌-ℤ◌, ◌≤ℤ◌, ◌<ℤ◌, int_le, Bool, true, false, not, if◌then◌else◌, IsTrue, Some, None, ap, ap₂, sym, subst, refl, arith, ◌↔◌}
 use Rattle.std.proofs.lemmas.Int.{ints}
 use Rattle.std.proofs.lemmas.Bool.Decides.{Decides-int_eq}
-use Rattle.std.proofs.lemmas.Option.{option_and_then_some, get_or_from_slice_get, slice_get_within, same_Some}
-use Rattle.std.proofs.Math.IntN.{zero-*ℤ}
-use Rattle.linear_rows.specs.Numbers.{is_zero}
-use Rattle.linear_rows.proofs.Ring.{mul-le}
-use Rattle.terms.specs.declared.fact.Fact.{Fact}
-use Rattle.terms.specs.Trees.{TermTree, FormTree, always, never, at_most, equal, denied, both, either}
-use Rattle.terms.specs.declared.fact.Fact.TheVariants as fact
-use Rattle.terms.specs.Truth.{Interpretation, term_at, form_at, FactAt}
-use Rattle.cert_checker.specs.Linear.{Multiple, Sum, scaled_multiples, number_sum, scaled_sum, total, difference, sum_of, coefficients}
-use Rattle.cert_checker.specs.Rows.{Line, at_most_zero, equal_to_zero, line_of, has_small_numbers, row_of, form_of, plain_at, row_at, nothing, plus_multiple, may_be_added, checked_plus, added, combination, is_constant, is_false}
+use Rattle.std.proofs.lemmas.Option.{option_and_then_some, same_Some}
+use Rattle.terms.specs.Trees.{TermTree, FormTree, at_most, equal, denied}
+use Rattle.terms.specs.Truth.{Interpretation, term_at, form_at}
+use Rattle.cert_checker.specs.Linear.{Sum, number_sum, scaled_sum, total, difference, sum_of}
+use Rattle.cert_checker.specs.Rows.{Line, at_most_zero, equal_to_zero, line_of, has_small_numbers, row_of}
 use Rattle.cert_checker.specs.Worth.{worth, sum_at, LineAt}
-use Rattle.cert_checker.proofs.Choices.{and_left, and_right}
-use Rattle.cert_checker.proofs.WorthLaws.{worth-append, worth-scaled, sum_at-total, sum_at-scaled, sum_at-difference, minus-one, term_at-sum_of}
-use Rattle.cert_checker.proofs.CoefficientLaws.{worth-coefficients}
+use Rattle.cert_checker.proofs.WorthLaws.{sum_at-total, sum_at-scaled, sum_at-difference, minus-one, term_at-sum_of}
 
 -- ---- rows of forms
 
@@ -41,8 +31,10 @@ at_most_zero-at : (v : Interpretation) (s : Sum) → LineAt v (at_most_zero s) �
 at_most_zero-at v s = (λ h. past_below (worth v s.multiples) s.constant h.below, λ h. record { below = below_past (worth v s.multiples) s.constant h; tight = λ e. absurd cc })
 
 equal_to_zero-at : (v : Interpretation) (s : Sum) → LineAt v (equal_to_zero s) ↔ (sum_at v s ≡ pos 0)
-equal_to_zero-at v s = (λ h. past_equal (worth v s.multiples) s.constant (h.tight refl),
-    λ h. record { below = no_more (worth v s.multiples) s.constant h; tight = λ e. equal_past (worth v s.multiples) s.constant h })
+equal_to_zero-at v s = (
+  λ h. past_equal (worth v s.multiples) s.constant (h.tight refl),
+  λ h. record { below = no_more (worth v s.multiples) s.constant h; tight = λ e. equal_past (worth v s.multiples) s.constant h },
+)
 
 difference-is : (v : Interpretation) (t u : TermTree) → sum_at v (difference (sum_of t) (sum_of u)) ≡ term_at v t -ℤ term_at v u
 difference-is v t u = sum_at-difference v (sum_of t) (sum_of u) ∙ sym (ap₂ (λ y z. y -ℤ z) (term_at-sum_of v t) (term_at-sum_of v u))
@@ -85,20 +77,23 @@ abbrev SaysLine : Interpretation → FormTree → Line → Type 0
 SaysLine v f line = IsTrue (form_at v f) ↔ LineAt v line
 
 at_most-says : (v : Interpretation) (t u : TermTree) → SaysLine v (at_most t u) (at_most_zero (difference (sum_of t) (sum_of u)))
-at_most-says v t u = let is = at_most_zero-at v (difference (sum_of t) (sum_of u)) in
-    (λ h. is.1 (le-difference (term_at v t) (term_at v u) (sum_at v (difference (sum_of t) (sum_of u))) (difference-is v t u) h),
-    λ h. difference-le (term_at v t) (term_at v u) (sum_at v (difference (sum_of t) (sum_of u))) (difference-is v t u) (is.0 h))
+at_most-says v t u = let is = at_most_zero-at v (difference (sum_of t) (sum_of u)) in (
+  λ h. is.1 (le-difference (term_at v t) (term_at v u) (sum_at v (difference (sum_of t) (sum_of u))) (difference-is v t u) h),
+  λ h. difference-le (term_at v t) (term_at v u) (sum_at v (difference (sum_of t) (sum_of u))) (difference-is v t u) (is.0 h),
+)
 
 turned-says : (v : Interpretation) (t u : TermTree) → SaysLine v (denied (at_most t u)) (at_most_zero (turned t u))
-turned-says v t u = let is = at_most_zero-at v (turned t u) in
-    (λ h. is.1 (more-turned (term_at v t) (term_at v u) (sum_at v (turned t u)) (turned-is v t u) h),
-    λ h. turned-more (term_at v t) (term_at v u) (sum_at v (turned t u)) (turned-is v t u) (is.0 h))
+turned-says v t u = let is = at_most_zero-at v (turned t u) in (
+  λ h. is.1 (more-turned (term_at v t) (term_at v u) (sum_at v (turned t u)) (turned-is v t u) h),
+  λ h. turned-more (term_at v t) (term_at v u) (sum_at v (turned t u)) (turned-is v t u) (is.0 h),
+)
 
 equal-says : (v : Interpretation) (t u : TermTree) → SaysLine v (equal t u) (equal_to_zero (difference (sum_of t) (sum_of u)))
 equal-says v t u = let is = equal_to_zero-at v (difference (sum_of t) (sum_of u)) in
-    let decides = Decides-int_eq (term_at v t) (term_at v u) in
-    (λ h. is.1 (eq-difference (term_at v t) (term_at v u) (sum_at v (difference (sum_of t) (sum_of u))) (difference-is v t u) (decides.0 h)),
-    λ h. decides.1 (difference-eq (term_at v t) (term_at v u) (sum_at v (difference (sum_of t) (sum_of u))) (difference-is v t u) (is.0 h)))
+    let decides = Decides-int_eq (term_at v t) (term_at v u) in (
+      λ h. is.1 (eq-difference (term_at v t) (term_at v u) (sum_at v (difference (sum_of t) (sum_of u))) (difference-is v t u) (decides.0 h)),
+      λ h. decides.1 (difference-eq (term_at v t) (term_at v u) (sum_at v (difference (sum_of t) (sum_of u))) (difference-is v t u) (is.0 h)),
+    )
 
 at-line : (v : Interpretation) (f : FormTree) (made line : Line) → SaysLine v f made → Some made ≡ Some line → SaysLine v f line
 at-line v f made line says e = subst (SaysLine v f) (same_Some made line e) says

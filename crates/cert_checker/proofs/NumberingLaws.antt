@@ -1,25 +1,16 @@
 -- Numbers of atoms, and the rows of sums over them.
-use Rattle.std.proofs.Common.{◌≡◌, ◌∙◌, ℕ, ◌+◌, ◌<◌, ◌≤◌, ◌^◌, zero, suc, ℤ, pos, negsuc, ◌+ℤ◌, ◌-ℤ◌, ◌*ℤ◌, Bool, true, false, not, ◌&&◌, ◌||◌, cond, if◌then◌else◌, nat_eq, nat_le, nat_lt, List, [], ◌∷◌, ◌++◌, map, filter, length, ap, ap₂, sym, subst, refl, arith}
-use Rattle.std.specs.Prelude.{unsigned_abs}
-use Rattle.std.specs.List.{list_any, list_all, position_or_len}
+use Rattle.std.proofs.Common.{◌≡◌, ◌∙◌, ℕ, ◌+◌, ◌≤◌, ℤ, pos, ◌+ℤ◌, ◌*ℤ◌, Bool, true, false, not, ◌||◌, cond, List, [], ◌∷◌, ◌++◌, ap, ap₂, sym, subst, refl, arith}
 use Rattle.std.proofs.lemmas.Int.{ints}
-use Rattle.std.proofs.lemmas.Bool.Decides.{nat_tests}
 use Rattle.std.proofs.lemmas.List.Folds.{list_any-append, list_all-append}
-use Rattle.std.proofs.Math.IntN.{zero-*ℤ, *ℤ-zero, *ℤ_comm}
 use Rattle.linear_rows.specs.declared.row.Row.{Row}
-use Rattle.linear_rows.specs.Numbers.{fits}
-use Rattle.linear_rows.specs.Sums.{Part, From, IsInForm, all_fit, row_fits, coefficient, dot, sums, plus_times}
-use Rattle.linear_rows.proofs.Ring.{times-one}
+use Rattle.linear_rows.specs.Sums.{plus_times}
 use Rattle.linear_rows.proofs.SumLaws.{dot-sums}
-use Rattle.linear_rows.proofs.FormLaws.{From-sums, unit, dot-unit}
+use Rattle.linear_rows.proofs.FormLaws.{From-sums}
 use Rattle.terms.specs.Equality.{same_term}
 use Rattle.terms.specs.Code.EqualityLaws.{same_term-equal, same_term-refl}
 use Rattle.terms.specs.Trees.{TermTree}
-use Rattle.terms.specs.Valuations.{is_small}
-use Rattle.cert_checker.specs.Linear.{Multiple, Sum, scaled_multiples, scaled_sum, number_sum, atom_sum, total, atoms, coefficients, are_small, sum_is_small}
-use Rattle.cert_checker.specs.Linear as linear
-use Rattle.cert_checker.specs.Worth.{weighed}
-use Rattle.cert_checker.specs.Numbering.{atom_number, has_atom, with_atom, with_atoms, at_point}
+use Rattle.cert_checker.specs.Linear.{Multiple, Sum, scaled_multiples, scaled_sum, number_sum, atom_sum, total}
+use Rattle.cert_checker.specs.Numbering.{atom_number, has_atom, at_point}
 use Rattle.cert_checker.specs.Code.SumRows.{have_numbers, IsSumRow}
 use Rattle.cert_checker.proofs.Choices.{by_bool, and_left, and_right, and_true}
 use Rattle.cert_checker.proofs.WorthLaws.{weighed-append, weighed-scaled, one-times}

@@ -1,5 +1,5 @@
 -- Where an atom stands among numbered ones.
-use Rattle.std.proofs.Common.{◌≡◌, ◌∙◌, ℕ, ◌+◌, ◌<◌, zero, suc, Bool, true, false, not, ◌||◌, cond, if◌then◌else◌, nat_lt, List, [], ◌∷◌, ◌++◌, length, Option, Some, None, ap, sym, refl, arith}
+use Rattle.std.proofs.Common.{◌≡◌, ◌∙◌, ℕ, ◌+◌, suc, Bool, true, false, ◌||◌, cond, if◌then◌else◌, nat_lt, List, [], ◌∷◌, ◌++◌, length, Some, None, ap, sym, refl, arith}
 use Rattle.std.specs.List.{position}
 use Rattle.std.proofs.lemmas.Option.{cond_some}
 use Rattle.terms.specs.Equality.{same_term}
@@ -15,7 +15,7 @@ first-below n = grind arith
 next-below : (m n : ℕ) → nat_lt (1 + m) (suc n) ≡ nat_lt m n
 next-below m n = grind arith
 
-number-below : (us : List TermTree) (t : TermTree) → nat_lt (atom_number us t) (length us) ≡ has_atom us t
+pub number-below : (us : List TermTree) (t : TermTree) → nat_lt (atom_number us t) (length us) ≡ has_atom us t
 number-below [] t = refl
 number-below (u ∷ us) t = by_bool (same_term u t)
     (λ e. ap (λ n. nat_lt n (length (u ∷ us))) (number-first u us t e) ∙ first-below (length us) ∙ sym (ap (λ b. b || has_atom us t) e))

@@ -1,12 +1,12 @@
 -- A true row that is divided and rounded down is true.
-use Rattle.std.proofs.Common.{◌≡◌, ◌∙◌, ℕ, zero, suc, ℤ, pos, negsuc, ◌+ℤ◌, ◌*ℤ◌, ◌≤ℤ◌, ◌<ℤ◌, int_le, int_lt, Bool, true, false, not, ◌&&◌, cond, IsTrue, List, [], ◌∷◌, map, filter, ap, ap₂, sym, subst, refl, arith}
+use Rattle.std.proofs.Common.{◌≡◌, ◌∙◌, ℤ, pos, ◌+ℤ◌, ◌*ℤ◌, ◌≤ℤ◌, ◌<ℤ◌, int_le, int_lt, true, not, ◌&&◌, cond, IsTrue, List, [], ◌∷◌, map, filter, ap, ap₂, sym, subst, refl, arith}
 use Rattle.std.specs.List.{list_all, fold}
 use Rattle.std.specs.Int.{int_div_euclid, int_rem_euclid}
 use Rattle.std.proofs.lemmas.Int.{ints}
 use Rattle.std.proofs.Math.IntN.{zero-*ℤ, *ℤ-zero}
 use Rattle.linear_rows.specs.Numbers.{is_zero}
 use Rattle.linear_rows.proofs.Ring.{dist-left, assoc, round-down}
-use Rattle.terms.specs.Trees.{TermTree, number, plus, times, FormTree, at_most}
+use Rattle.terms.specs.Trees.{TermTree, plus}
 use Rattle.terms.specs.Truth.{Interpretation, term_at, form_at}
 use Rattle.terms.specs.Valuations.{is_small}
 use Rattle.cert_checker.proofs.Choices.{by_bool}
@@ -79,5 +79,5 @@ rounded-true v d line may h =
     ∙ ap (λ z. d *ℤ z) (sym (joined-at v terms)) in
     let bound = rounded-down line.bound d d_up in
     le-test (term_at v (joined terms)) (int_div_euclid line.bound d)
-        (round-down d (term_at v (joined terms)) line.bound (int_div_euclid line.bound d) (int_rem_euclid line.bound d) (up-le d d_up) bound.is bound.below
-        (subst (λ w. w ≤ℤ line.bound) whole h.below))
+    (round-down d (term_at v (joined terms)) line.bound (int_div_euclid line.bound d) (int_rem_euclid line.bound d) (up-le d d_up) bound.is bound.below
+    (subst (λ w. w ≤ℤ line.bound) whole h.below))

@@ -1,5 +1,5 @@
 -- Where the facts of a branch hold, so do those of a child, whatever the rule.
-use Rattle.std.proofs.Common.{◌≡◌, ◌∙◌, ℕ, ◌^◌, ◌<◌, zero, suc, ℤ, pos, negsuc, neg_ℤ, ◌+ℤ◌, ◌-ℤ◌, ◌*ℤ◌, ◌≤ℤ◌, ◌<ℤ◌, int_le, int_lt, Bool, true, false, not, ◌&&◌, ◌||◌, if◌then◌else◌, IsTrue, List, [], ◌∷◌, ◌++◌, map, Option, Some, None, filter_map, ap, ap₂, sym, subst, refl, arith, ◌⊎◌, inl, inr, All, nat_lt}
+use Rattle.std.proofs.Common.{◌≡◌, ◌∙◌, ℕ, ◌^◌, ◌<◌, ℤ, pos, negsuc, neg_ℤ, ◌+ℤ◌, ◌-ℤ◌, ◌≤ℤ◌, ◌<ℤ◌, int_le, Bool, true, false, not, ◌&&◌, ◌||◌, if◌then◌else◌, IsTrue, List, [], ◌∷◌, ◌++◌, map, Option, Some, None, filter_map, ap, sym, subst, refl, arith, ◌⊎◌, inl, inr, All}
 use Rattle.std.specs.Prelude.{option_and_then, option_map, slice_get, unsigned_abs}
 use Rattle.std.specs.Ordering.{int_eq}
 use Rattle.std.proofs.lemmas.Int.{ints}
@@ -14,17 +14,16 @@ use Rattle.terms.specs.declared.sequent.Sort.TheVariants as sort
 use Rattle.terms.specs.Symbols.{same_sym}
 use Rattle.terms.specs.Names.{terms_in_form}
 use Rattle.terms.specs.declared.fact.Fact.{Fact}
-use Rattle.terms.specs.Trees.{TermTree, number, name, plus, minus, times, divided, remainder, read, truth, FormTree, always, never, at_most, equal, denied, both, either}
+use Rattle.terms.specs.Trees.{TermTree, number, name, divided, remainder, FormTree, always, never, equal, denied, both, either}
 use Rattle.terms.specs.declared.fact.Fact.TheVariants as fact
-use Rattle.terms.specs.Truth.{Interpretation, quotient_of, remainder_of, number_of, term_at, form_at, FactAt}
+use Rattle.terms.specs.Truth.{Interpretation, remainder_of, number_of, term_at, form_at, FactAt}
 use Rattle.terms.specs.Validity.{HasSort, InRange}
 use Rattle.terms.specs.Valuations.{is_small}
 use Rattle.cert_checker.proofs.Choices.{by_bool}
 use Rattle.terms.specs.Code.SymbolLaws.{same_sym-equal}
-use Rattle.terms.specs.Equality.{same_form}
-use Rattle.cert_checker.specs.Rows.{Line, plain_at, combination, is_false}
-use Rattle.cert_checker.specs.Places.{truths_in, by_number, division_of, exchanged_form}
-use Rattle.cert_checker.specs.Rules.{Children, one_child, two_children, on_plain, is_contradiction, are_opposite, is_once, closes_as_written, closes_by_sum, close, both_parts, one, each_case, cut, may_round, rounded, round, bounds_of, bounds_in, within_bounds, range_of_name, exchange, true_or_false, split_truth, division, divide_by, divide, forms_of, children}
+use Rattle.cert_checker.specs.Rows.{Line, plain_at, combination}
+use Rattle.cert_checker.specs.Places.{truths_in, by_number, division_of}
+use Rattle.cert_checker.specs.Rules.{Children, on_plain, is_contradiction, are_opposite, is_once, closes_as_written, closes_by_sum, close, both_parts, each_case, cut, may_round, rounded, round, bounds_of, bounds_in, within_bounds, range_of_name, exchange, true_or_false, split_truth, division, divide_by, divide, forms_of, children}
 use Rattle.cert_form.specs.declared.cert.Rule.{Rule}
 use Rattle.cert_form.specs.declared.cert.Rule.TheVariants as rule
 use Rattle.cert_checker.specs.Fails.{Fails}
@@ -229,13 +228,18 @@ second-true true b h = refl
 second-true false b h = h
 
 division-true : (v : Interpretation) (a : TermTree) (d : ℤ) → is_zero d ≡ false → AreTrue v (division a d)
-division-true v a d nonzero = ((Decides-int_eq (term_at v a) _).1 (divided-parts (term_at v a) d),
-    (elim ((has_remainder (term_at v a) d nonzero).signs) [
+division-true v a d nonzero = (
+  (Decides-int_eq (term_at v a) _).1 (divided-parts (term_at v a) d),
+  (
+    elim ((has_remainder (term_at v a) d nonzero).signs) [
       | inl up ↦ first-true _ _ (and_true (int_le (pos 0) (term_at v a)) _ (le-test (pos 0) (term_at v a) up.0)
-        (both-tests (pos 0) (remainder_of (term_at v a) d) (pos (unsigned_abs d) -ℤ pos 1) up.1 up.2))
+          (both-tests (pos 0) (remainder_of (term_at v a) d) (pos (unsigned_abs d) -ℤ pos 1) up.1 up.2))
       | inr down ↦ second-true _ _ (and_true (int_le (term_at v a) (negsuc 0)) _ (le-test (term_at v a) (negsuc 0) down.0)
-        (both-tests (pos 1 -ℤ pos (unsigned_abs d)) (remainder_of (term_at v a) d) (pos 0) down.1 down.2))
-    ], tt))
+          (both-tests (pos 1 -ℤ pos (unsigned_abs d)) (remainder_of (term_at v a) d) (pos 0) down.1 down.2))
+    ],
+    tt,
+  ),
+)
 
 -- what is divided by stands there as a number other than 0
 abbrev IsNonzero : TermTree × ℤ → Type 0

@@ -1,5 +1,5 @@
 -- Steps are taken until none is left.
-use Rattle.std.proofs.Common.{◌≡◌, ◌∙◌, ℕ, ◌+◌, ◌*◌, ◌<◌, ◌≤◌, zero, suc, Bool, true, false, ℤ, List, [], ◌∷◌, ◌++◌, reverse, length, Option, Some, None, Result, Ok, Err, ap, sym, subst, refl, arith}
+use Rattle.std.proofs.Common.{◌≡◌, ◌∙◌, ℕ, ◌+◌, ◌*◌, ◌<◌, ◌≤◌, suc, true, ℤ, List, [], ◌∷◌, ◌++◌, reverse, length, Option, Some, None, Result, Ok, Err, ap, sym, subst, refl, arith}
 use Rattle.std.specs.List.{list_all, AllZip}
 use Rattle.std.specs.Prelude.{OnOk}
 use Rattle.std.proofs.lemmas.List.{reverse-append}
@@ -13,10 +13,9 @@ use Rattle.terms.specs.Trees.{TermTree, number, name, plus, minus, times, divide
 use Rattle.cert_checker.specs.declared.step.Step.{Step}
 use Rattle.cert_checker.specs.declared.step.Step.TheVariants as step
 use Rattle.cert_checker.specs.declared.step.Operation.{Operation}
-use Rattle.cert_checker.specs.declared.step.Operation.TheVariants as operation
 use Rattle.cert_checker.specs.Linear.{Sum}
 use Rattle.cert_checker.specs.Code.SumRows.{IsSumRow}
-use Rattle.cert_checker.specs.Code.Steps.{operands, work, sum_after, are_small_after, atoms_after, Goal, ComesTo, GoesOn, HasOperands, HasGoal, IsMade, Makes, Shape, shape_of, product_shape, literal_of, opened_steps, IsOpen, IsOpened}
+use Rattle.cert_checker.specs.Code.Steps.{operands, work, sum_after, are_small_after, atoms_after, Goal, ComesTo, GoesOn, HasOperands, IsMade, Makes, shape_of, product_shape, literal_of, opened_steps, IsOpened}
 use Rattle.cert_checker.proofs.Choices.{and_left}
 use Rattle.cert_checker.proofs.StepLaws.{fit-reversed}
 use Rattle.cert_checker.proofs.GoalLaws.{enough-rows}

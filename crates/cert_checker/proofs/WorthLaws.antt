@@ -1,11 +1,11 @@
 -- What sums are worth.
-use Rattle.std.proofs.Common.{◌≡◌, ◌∙◌, ℕ, ℤ, pos, negsuc, neg_ℤ, ◌+ℤ◌, ◌-ℤ◌, ◌*ℤ◌, List, [], ◌∷◌, ◌++◌, map, ap, ap₂, sym, refl, arith, suc, zero}
+use Rattle.std.proofs.Common.{◌≡◌, ◌∙◌, ℤ, pos, negsuc, neg_ℤ, ◌+ℤ◌, ◌-ℤ◌, ◌*ℤ◌, List, [], ◌∷◌, ◌++◌, ap, ap₂, sym, refl, arith}
 use Rattle.std.proofs.lemmas.Int.{ints}
 use Rattle.std.proofs.Math.IntN.{zero-*ℤ, *ℤ_comm}
 use Rattle.linear_rows.proofs.Ring.{dist, dist-left, assoc, times-one}
 use Rattle.terms.specs.Trees.{TermTree, number, name, plus, minus, times, divided, remainder, read, truth}
 use Rattle.terms.specs.Truth.{Interpretation, term_at}
-use Rattle.cert_checker.specs.Linear.{Multiple, Sum, scaled_multiples, number_sum, atom_sum, scaled_sum, total, difference, product, sum_of}
+use Rattle.cert_checker.specs.Linear.{Multiple, Sum, scaled_multiples, atom_sum, scaled_sum, total, difference, product, sum_of}
 use Rattle.cert_checker.specs.Worth.{weighed, worth, sum_at}
 
 zero-sum : (b : ℤ) → b ≡ pos 0 +ℤ b

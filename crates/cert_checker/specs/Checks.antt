@@ -1,10 +1,10 @@
 -- When a certificate checks. It is a list of rules in preorder: each rule works on the facts of the
 -- nearest open branch, and its children are the branches that come next.
-use Rattle.std.specs.Prelude.{◌≡◌, ℕ, Bool, true, false, not, ◌&&◌, List, [], ◌∷◌, ◌++◌, map, codes, Option, Some, None}
+use Rattle.std.specs.Prelude.{◌≡◌, Bool, true, false, not, ◌&&◌, List, [], ◌∷◌, ◌++◌, map, codes, Option, Some, None}
 use Rattle.terms.specs.declared.sym.Sym.{Sym}
 use Rattle.terms.specs.declared.sequent.Sort.{Sort}
 use Rattle.terms.specs.declared.fact.Fact.{Fact}
-use Rattle.terms.specs.Trees.{TermTree, number, name, plus, FormTree, at_most, denied}
+use Rattle.terms.specs.Trees.{name, plus, at_most, denied}
 use Rattle.terms.specs.declared.fact.Fact.TheVariants as fact
 use Rattle.terms.specs.Replacing.{number_by, replaced_form}
 use Rattle.cert_checker.specs.Rules.{one, children}

@@ -7,3 +7,7 @@ pub mod Parts
 pub mod Exchanging
 pub mod Finding
 pub mod Truths
+pub mod Closing
+pub mod Made
+pub mod Branches
+pub mod Rounding

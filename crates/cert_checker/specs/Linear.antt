@@ -2,7 +2,7 @@
 -- other term is an atom. Atoms are equal where they are the same as written.
 use Rattle.std.specs.Prelude.{ℤ, pos, negsuc, ◌+ℤ◌, ◌*ℤ◌, Bool, true, false, not, ◌&&◌, ◌||◌, if◌then◌else◌, List, [], ◌∷◌, ◌++◌, map, filter}
 use Rattle.std.specs.List.{list_all}
-use Rattle.terms.specs.Trees.{TermTree, number, name, plus, minus, times, divided, remainder, read, truth}
+use Rattle.terms.specs.Trees.{TermTree, number, plus, minus, times}
 use Rattle.terms.specs.Valuations.{is_small}
 use Rattle.terms.specs.Equality.{same_term}
 

@@ -1,5 +1,5 @@
 -- Terms at their places in formulas, and what a formula becomes where they are replaced.
-use Rattle.std.specs.Prelude.{ℤ, pos, Bool, if◌then◌else◌, List, [], ◌∷◌, ◌++◌, map, Option, Some, None, filter_map}
+use Rattle.std.specs.Prelude.{ℤ, if◌then◌else◌, List, [], ◌∷◌, ◌++◌, map, Option, Some, None, filter_map}
 use Rattle.linear_rows.specs.Numbers.{is_zero}
 use Rattle.terms.specs.Trees.{TermTree, number, name, plus, minus, times, divided, remainder, read, truth, ArrayTree, array, stored, FormTree, always, never, at_most, equal, denied, both, either}
 use Rattle.terms.specs.Equality.{same_term}

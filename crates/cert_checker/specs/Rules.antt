@@ -1,5 +1,5 @@
 -- The rules of certificates: what each adds to the facts of a branch.
-use Rattle.std.specs.Prelude.{ℕ, ◌^◌, ℤ, pos, negsuc, ◌-ℤ◌, neg_ℤ, Bool, true, false, not, ◌&&◌, ◌||◌, if◌then◌else◌, int_lt, unsigned_abs, List, [], ◌∷◌, ◌++◌, map, filter, filter_map, Option, Some, None, option_and_then, option_map, slice_get}
+use Rattle.std.specs.Prelude.{ℕ, ◌^◌, ℤ, pos, negsuc, ◌-ℤ◌, neg_ℤ, Bool, true, false, not, ◌&&◌, ◌||◌, if◌then◌else◌, int_lt, unsigned_abs, List, [], ◌∷◌, map, filter, filter_map, Option, Some, None, option_and_then, option_map, slice_get}
 use Rattle.std.specs.List.{list_all, fold}
 use Rattle.std.specs.Int.{int_div_euclid, int_rem_euclid}
 use Rattle.std.specs.Ordering.{int_eq}
@@ -10,7 +10,7 @@ use Rattle.terms.specs.declared.sequent.Sort.TheVariants as sort
 use Rattle.terms.specs.Symbols.{same_sym}
 use Rattle.terms.specs.Names.{terms_in_form}
 use Rattle.terms.specs.declared.fact.Fact.{Fact}
-use Rattle.terms.specs.Trees.{TermTree, number, name, plus, times, divided, remainder, truth, FormTree, always, never, at_most, equal, denied, both, either}
+use Rattle.terms.specs.Trees.{TermTree, number, name, plus, times, divided, remainder, FormTree, always, never, at_most, equal, denied, both, either}
 use Rattle.terms.specs.declared.fact.Fact.TheVariants as fact
 use Rattle.terms.specs.Valuations.{is_small}
 use Rattle.terms.specs.Equality.{same_form}

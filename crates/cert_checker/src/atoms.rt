@@ -3,9 +3,9 @@ ghost use Rattle.std.specs.List.{position};
 ghost use Rattle.terms.specs.Equality.{same_term};
 ghost use Rattle.cert_checker.specs.Numbering.{atom_number, with_atom, IsRowOf};
 
-use std::alloc::{AllocError, Global};
 use crate::row::form_row;
 use linear_rows::{Row, RowFail};
+use std::alloc::{AllocError, Global};
 use std::marker::Model;
 use terms::{Form, Term, TermRef};
 

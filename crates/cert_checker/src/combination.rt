@@ -1,6 +1,7 @@
 ghost use Rattle.std.specs.Prelude.{◌≡◌, true, []};
 ghost use Rattle.linear_rows.specs.Sums.{row_fits};
-ghost use Rattle.cert_checker.specs.Code.Combined.{IsRowAt, IsCheckedSum, Combines};
+ghost use Rattle.cert_checker.specs.Code.Combined.{IsRowAt, IsCheckedSum, IsCombined, AddsTo, Combines};
+ghost use Rattle.cert_checker.specs.Rows.{Line};
 
 use crate::row::form_row;
 use crate::sum::number_row;
@@ -31,12 +32,7 @@ fn row_at(
 }
 
 /// A row more, if its multiplier is allowed, and that and the sum are within sizes.
-fn checked_plus(
-    alloc: Global,
-    sum: &Row,
-    times: i128,
-    row: &Row,
-) -> Result<Option<Row>, AllocError>
+fn checked_plus(alloc: Global, sum: &Row, times: i128, row: &Row) -> Result<Option<Row>, AllocError>
     requires { row_fits sum.now ≡ true }
     ensures { IsCheckedSum sum.now times row.now result }
 {
@@ -51,4 +47,42 @@ fn checked_plus(
         Err(RowFail::Wide) => Ok(None),
         Err(RowFail::NoMemory) => Err(AllocError),
     }
+}
+
+/// The sum with the multiple of a fact's row more, if that may be added.
+fn add_fact(
+    alloc: Global,
+    facts: &[Fact],
+    number: u32,
+    times: i128,
+    sum: &Row,
+    atoms: &mut Vec<Term>,
+) -> Result<Option<Row>, AllocError>
+    requires { row_fits sum.now ≡ true }
+    ensures { (line : Line) → IsCombined line sum.now atoms.old.items → AddsTo facts.now number times line result atoms.new.items }
+{
+    let Some(row) = row_at(alloc, facts, number, atoms)? else {
+        return Ok(None);
+    };
+    checked_plus(alloc, sum, times, &row)
+}
+
+/// The sum of the rows of facts with multipliers, in their order, if each may be added.
+pub(crate) fn combined(
+    alloc: Global,
+    facts: &[Fact],
+    pairs: &[(u32, i128)],
+    atoms: &mut Vec<Term>,
+) -> Result<Option<Row>, AllocError>
+    requires { atoms.old.items ≡ [] }
+    ensures { Combines facts.now pairs.now result atoms.new.items }
+{
+    let mut sum = number_row(alloc, 0);
+    for pair in pairs {
+        let Some(next) = add_fact(alloc, facts, pair.0, pair.1, &sum, atoms)? else {
+            return Ok(None);
+        };
+        sum = next;
+    }
+    Ok(Some(sum))
 }

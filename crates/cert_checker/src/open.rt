@@ -41,11 +41,7 @@ pub(crate) fn push_operands<'a>(
 }
 
 /// A term, and its row so many times.
-fn push_scaled<'a>(
-    steps: &mut Vec<Step<'a>>,
-    term: TermRef<'a>,
-    times: i128,
-) -> Result<(), RowFail>
+fn push_scaled<'a>(steps: &mut Vec<Step<'a>>, term: TermRef<'a>, times: i128) -> Result<(), RowFail>
     ensures pushed { OnOk result (reverse steps.new.items
         ≡ step.Term term.entry ∷ (step.Apply (operation.Scale times) ∷ reverse steps.old.items)) }
     ensures memory { IfErr result (λ fail. fail ≡ RowFail.NoMemory) }

@@ -131,11 +131,7 @@ fn scale(alloc: Global, rows: &mut Vec<Row>, times: i128) -> Result<(), RowFail>
     push_sum(alloc, rows, &number_row(alloc, 0), &row, times)
 }
 
-pub(crate) fn apply(
-    alloc: Global,
-    rows: &mut Vec<Row>,
-    operation: Operation,
-) -> Result<(), RowFail>
+pub(crate) fn apply(alloc: Global, rows: &mut Vec<Row>, operation: Operation) -> Result<(), RowFail>
     requires operands { operands operation ≤ length rows.old.items }
     requires fit { list_all row_fits rows.old.items ≡ true }
     ensures { IsApplied (rows_behind operation (reverse rows.old.items)) result rows.new.items }

@@ -1,12 +1,12 @@
 -- Combinations of rows over numbered atoms.
-use Rattle.std.specs.Prelude.{◌≡◌, ℕ, ℤ, pos, Bool, true, false, ◌&&◌, ◌||◌, if◌then◌else◌, int_le, List, [], ◌∷◌, Option, Some, None, Result, Ok, Err, ⊤}
+use Rattle.std.specs.Prelude.{◌≡◌, ℕ, ℤ, pos, Bool, true, ◌&&◌, ◌||◌, if◌then◌else◌, int_le, List, [], Option, Some, None, option_and_then, Result, Ok, Err, ⊤}
 use Rattle.std.specs.declared.alloc.AllocError.{AllocError}
 use Rattle.linear_rows.specs.declared.row.Row.{Row}
 use Rattle.linear_rows.specs.Sums.{row_fits, plus_times}
 use Rattle.terms.specs.declared.fact.Fact.{Fact}
 use Rattle.terms.specs.Trees.{TermTree}
 use Rattle.cert_checker.specs.Linear.{Sum}
-use Rattle.cert_checker.specs.Rows.{Line, row_at, combination}
+use Rattle.cert_checker.specs.Rows.{Line, row_at, checked_plus, added, combination}
 use Rattle.cert_checker.specs.Numbering.{with_atoms, IsRow}
 use Rattle.cert_checker.specs.Code.SumRows.{IsSumRow}
 use Rattle.cert_checker.specs.Code.Steps.{number_row}
@@ -38,3 +38,18 @@ abbrev pub Combines : List Fact → List (ℕ × ℤ) → Result (Option Row) Al
 Combines facts pairs (Ok None) atoms = combination facts pairs ≡ None
 Combines facts pairs (Ok (Some row)) atoms = (line : Line) × (combination facts pairs ≡ Some line) × IsCombined line row atoms
 Combines facts pairs (Err e) atoms = ⊤
+
+-- one row more
+abbrev pub next_line : List Fact → ℕ → ℤ → Line → Option Line
+next_line facts i times line = option_and_then (checked_plus line times) (row_at facts i)
+
+abbrev pub AddsTo : List Fact → ℕ → ℤ → Line → Result (Option Row) AllocError → List TermTree → Type 0
+AddsTo facts i times line (Ok None) atoms = next_line facts i times line ≡ None
+AddsTo facts i times line (Ok (Some row)) atoms = (next : Line) × (next_line facts i times line ≡ Some next) × IsCombined next row atoms
+AddsTo facts i times line (Err e) atoms = ⊤
+
+-- a combination up to some pair
+pub record IsAdding (facts : List Fact) (pairs rest : List (ℕ × ℤ)) (sum : Row) (atoms : List TermTree) : Type 0 where
+  pub line : Line
+  pub left : added facts rest line ≡ combination facts pairs
+  pub is : IsCombined line sum atoms

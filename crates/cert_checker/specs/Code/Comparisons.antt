@@ -1,10 +1,10 @@
 -- Forms that have rows, by their two terms.
-use Rattle.std.specs.Prelude.{◌≡◌, ℤ, neg_ℤ, Bool, true, false, ◌&&◌, List, [], ◌∷◌, ◌++◌, Option, Some, None, option_map, Result, Ok, Err, ⊤}
+use Rattle.std.specs.Prelude.{◌≡◌, neg_ℤ, Bool, true, false, ◌&&◌, List, [], ◌∷◌, ◌++◌, Option, Some, None, Result, Ok, Err, ⊤}
 use Rattle.std.specs.List.{list_all}
 use Rattle.linear_rows.specs.declared.row.Row.{Row}
 use Rattle.linear_rows.specs.declared.row.RowFail.{RowFail}
 use Rattle.linear_rows.specs.declared.row.RowFail.TheVariants.{NoMemory, Wide}
-use Rattle.terms.specs.Trees.{TermTree, FormTree, always, never, at_most, equal, denied, both, either}
+use Rattle.terms.specs.Trees.{TermTree, FormTree, at_most, equal, denied}
 use Rattle.cert_checker.specs.declared.row.Comparison.{Comparison}
 use Rattle.cert_checker.specs.declared.row.Relation.{Relation}
 use Rattle.cert_checker.specs.declared.row.Relation.TheVariants as relation
@@ -13,7 +13,7 @@ use Rattle.cert_checker.specs.declared.step.Step.TheVariants as step
 use Rattle.cert_checker.specs.declared.step.Operation.{Operation}
 use Rattle.cert_checker.specs.declared.step.Operation.TheVariants as operation
 use Rattle.cert_checker.specs.Linear.{Sum, difference, sum_of, sum_is_small, linear_terms}
-use Rattle.cert_checker.specs.Rows.{Line, at_most_zero, equal_to_zero, line_is_small, line_of, row_of}
+use Rattle.cert_checker.specs.Rows.{Line, at_most_zero, equal_to_zero, line_is_small}
 use Rattle.cert_checker.specs.Numbering.{with_atoms, IsRow}
 use Rattle.cert_checker.specs.Code.Steps.{turned}
 

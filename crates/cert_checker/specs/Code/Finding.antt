@@ -1,6 +1,6 @@
 -- Terms of a kind in the parts that are still to do, each before its parts.
-use Rattle.std.specs.Prelude.{◌≡◌, ℕ, Bool, true, false, is_some, List, [], ◌∷◌, ◌++◌, filter, slice_get, Some}
-use Rattle.terms.specs.Trees.{TermTree, number, name, plus, minus, times, divided, remainder, read, truth}
+use Rattle.std.specs.Prelude.{◌≡◌, ℕ, Bool, true, false, is_some, List, [], ◌∷◌, ◌++◌, filter, slice_get, Option, Some, None}
+use Rattle.terms.specs.Trees.{FormTree, TermTree, number, name, plus, minus, times, divided, remainder, read, truth}
 use Rattle.terms.specs.Names.{terms_in_term, terms_in_array, terms_in_form}
 use Rattle.cert_checker.specs.Places.{division_of}
 use Rattle.cert_checker.specs.declared.part.Part.{Part}
@@ -9,6 +9,11 @@ use Rattle.cert_checker.specs.declared.find.Wanted.{Wanted}
 use Rattle.cert_checker.specs.declared.find.Wanted.TheVariants as wanted
 use Rattle.cert_checker.specs.declared.find.Sought.{Sought}
 use Rattle.cert_checker.specs.declared.find.Sought.TheVariants as sought
+
+-- the form of a term that is its truth
+abbrev pub truth_form : TermTree → Option FormTree
+truth_form (truth f) = Some f
+truth_form t = None
 
 abbrev pub is_truth : TermTree → Bool
 is_truth (truth f) = true

@@ -6,7 +6,7 @@ use Rattle.linear_rows.specs.declared.row.RowFail.{RowFail}
 use Rattle.linear_rows.specs.declared.row.RowFail.TheVariants.{NoMemory, Wide}
 use Rattle.linear_rows.specs.Sums.{row_fits, plus_times}
 use Rattle.terms.specs.Nodes.{term_size}
-use Rattle.terms.specs.Trees.{TermTree, number, name, plus, minus, times, divided, remainder, read, truth}
+use Rattle.terms.specs.Trees.{TermTree, number, plus, minus, times}
 use Rattle.cert_checker.specs.declared.step.Step.{Step}
 use Rattle.cert_checker.specs.declared.step.Step.TheVariants as step
 use Rattle.cert_checker.specs.declared.step.Operation.{Operation}

@@ -1,4 +1,4 @@
-use Rattle.std.proofs.Common.{◌≡◌, reverse, ◌∷◌, [], ◌≤◌, length, subst, sym, rules, arith}
+use Rattle.std.proofs.Common.{reverse, [], ◌≤◌, length, subst, sym, rules}
 use Rattle.cert_checker.specs.Code.Steps.{ComesTo}
 use Rattle.cert_checker.proofs.RunLaws.{popped, at-end, some-row, fails-alike}
 use Rattle.cert_checker.proofs.run.made.Goals as goal

@@ -1,4 +1,4 @@
-use Rattle.std.proofs.Common.{reverse, [], ◌∷◌, subst}
+use Rattle.std.proofs.Common.{reverse, [], subst}
 use Rattle.cert_checker.specs.Code.Steps.{ComesTo}
 use Rattle.cert_checker.proofs.RunLaws.{popped, rows-fit, has-operands, fails-same}
 use Rattle.cert_checker.proofs.run.run.Goals as goal

@@ -1,5 +1,4 @@
 use Rattle.std.proofs.Common.{reverse, ◌∷◌, ◌<◌, OnOk, subst, sym}
-use Rattle.cert_checker.specs.declared.step.Step.TheVariants as step
 use Rattle.cert_checker.specs.Code.Steps.{work, ComesTo}
 use Rattle.cert_checker.proofs.GoalLaws.{term-taken, operation-taken}
 use Rattle.cert_checker.proofs.RunLaws.{opened-smaller, operation-less, on-ok}
