@@ -8,3 +8,4 @@ pub mod KeptLaws
 pub mod ValueLaws
 pub mod OccurrenceLaws
 pub mod SizeLaws
+pub mod OperatorLaws

@@ -142,7 +142,8 @@ impl Term {
         })
     }
 
-    pub(crate) fn from_nodes(nodes: Vec<Node>) -> Term
+    /// The term of these nodes in postfix order, which are those of one. It takes no memory.
+    pub fn from_nodes(nodes: Vec<Node>) -> Term
         requires { nodes.items ≡ term_nodes (term_in nodes.items) }
         ensures { result ≡ term_in nodes.items }
     {
@@ -275,7 +276,8 @@ impl ArrayTerm {
         })
     }
 
-    pub(crate) fn from_nodes(nodes: Vec<Node>) -> ArrayTerm
+    /// The array of these nodes in postfix order, which are those of one. It takes no memory.
+    pub fn from_nodes(nodes: Vec<Node>) -> ArrayTerm
         requires { nodes.items ≡ array_nodes (array_in nodes.items) }
         ensures { result ≡ array_in nodes.items }
     {
@@ -342,7 +344,8 @@ impl Form {
         })
     }
 
-    pub(crate) fn from_nodes(nodes: Vec<Node>) -> Form
+    /// The form of these nodes in postfix order, which are those of one. It takes no memory.
+    pub fn from_nodes(nodes: Vec<Node>) -> Form
         requires { nodes.items ≡ form_nodes (form_in nodes.items) }
         ensures { result ≡ form_in nodes.items }
     {

@@ -2,7 +2,7 @@
 //! where a name is replaced.
 #![tactic(auto)]
 
-mod build;
+pub mod build;
 pub mod changes;
 mod copy;
 mod evaluate;

@@ -1,0 +1,18 @@
+-- The rows of sums, whose bound is the sum's constant.
+use Rattle.std.specs.Prelude.{◌≡◌, ℕ, ℤ, Bool, true, List}
+use Rattle.std.specs.List.{list_all}
+use Rattle.linear_rows.specs.declared.row.Row.{Row}
+use Rattle.linear_rows.specs.Sums.{IsInForm, dot}
+use Rattle.terms.specs.Trees.{TermTree}
+use Rattle.cert_checker.specs.Linear.{Multiple, Sum}
+use Rattle.cert_checker.specs.Numbering.{has_atom, at_point}
+
+-- every atom of the multiples has a number
+abbrev pub have_numbers : List TermTree → List Multiple → Bool
+have_numbers atoms ms = list_all (λ m. has_atom atoms m.0) ms
+
+pub record IsSumRow (atoms : List TermTree) (s : Sum) (row : Row) : Type 0 where
+  pub in_form : IsInForm row
+  pub parts : (point : ℕ → ℤ) → dot point row.parts ≡ at_point point atoms s.multiples
+  pub bound : row.bound ≡ s.constant
+  pub numbered : have_numbers atoms s.multiples ≡ true

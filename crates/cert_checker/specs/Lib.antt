@@ -1,0 +1,9 @@
+pub mod Linear
+pub mod Rows
+pub mod Worth
+pub mod Places
+pub mod Rules
+pub mod Numbering
+pub mod Fails
+pub mod Checks
+pub mod Code
