@@ -99,6 +99,6 @@ pub(crate) fn name_value(alloc: Global, name: &Sym) -> Result<Value, AllocError>
     ensures { IfOk result (λ value. view value ≡ part_data (name_part name.now)) }
 {
     let mut text = Vec::new(alloc);
-    put_name(alloc, &mut text, name)?;
+    put_name(&mut text, name)?;
     text_value(alloc, text.as_slice())
 }

@@ -56,7 +56,7 @@ fn put_count(out: &mut Vec<u8>, count: u32) -> Result<(), AllocError>
 /// Appends the text of a name. The only error is want of memory; then a part of the text may have
 /// been appended.
 #[tactic(auto, unfolding(crate::specs::Written::name_text))]
-pub fn put_name(_alloc: Global, out: &mut Vec<u8>, name: &Sym) -> Result<(), AllocError>
+pub fn put_name(out: &mut Vec<u8>, name: &Sym) -> Result<(), AllocError>
     ensures { OnOk result (out.new.items ≡ out.old.items ++ name_text name.now) }
 {
     put_base(out, &name.base)?;

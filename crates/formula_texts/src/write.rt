@@ -181,7 +181,7 @@ fn put_term_view<'a>(
 {
     match view {
         TermView::Num(number) => put_number(out, number),
-        TermView::Of(name) => put_name(alloc, out, name),
+        TermView::Of(name) => put_name(out, name),
         TermView::Add(left, right) => two_terms(stack, left, b" + ", right),
         TermView::Sub(left, right) => two_terms(stack, left, b" - ", right),
         TermView::Mul(left, right) => two_terms(stack, left, b" * ", right),
@@ -203,7 +203,7 @@ fn put_array_view<'a>(
     ensures less { OnOk result (spec.weights stack.new.items < 16 * array_size (viewed_array view.entry) + spec.weights stack.old.items) }
 {
     match view {
-        ArrayView::Base(name) => put_name(alloc, out, name),
+        ArrayView::Base(name) => put_name(out, name),
         ArrayView::Store(array, index, value) => {
             put_text(out, b"$store(")?;
             stored(stack, array, index, value)

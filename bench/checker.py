@@ -1,16 +1,15 @@
 #!/usr/bin/env python3
-"""Measures certificates: reading, writing and checking lists of 100,000, 200,000 and 400,000 rules.
+"""Measures the checker of certificates on lists of 100,000, 200,000 and 400,000 rules.
 
-usage: bench/certs.py FOLDER
+usage: bench/checker.py FOLDER
 
-FOLDER is made if need be. A copy of the crates is proved and built there, with three small programs that read
-certificates from standard input: one prints how many rules they have, one writes them again and prints how long
-that text is, one checks each of them against the same sequent and prints how many check. Writing and checking are
-the differences of processor times to reading. Each text is run nine times with each program, and the quickest runs
-count, since other work on the machine only adds to them. There are two kinds of lists: many small certificates that
-split, and one certificate of rules that each add a fact. This script ends with status 1 where 100,000 rules take more
-than 0.5 s to read or 0.3 s to write, where fewer than 200,000 rules are checked a second, where a list of twice the
-size takes more than 2.3 times as long, or where a byte of text takes more than 40 bytes of memory.
+FOLDER is made if need be. A copy of the crates is proved and built there, with two small programs that read
+certificates from standard input: one prints how many rules they have, the other checks each of them against the same
+sequent and prints how many check. The checker's time is the difference of their processor times. Each text is run nine
+times with each program, and the quickest runs count, since other work on the machine only adds to them. There are two
+kinds of lists: many small certificates that split, and one certificate of rules that each add a fact. This script ends
+with status 1 where fewer than 200,000 rules are checked a second, or where a list of twice the size takes more than 2.3
+times as long.
 """
 import pathlib, sys
 from measuring import build, measure
@@ -51,16 +50,6 @@ fn count(alloc: Global, text: &[u8]) -> usize {
         }
     }
     count
-}
-''' + MAIN
-
-WRITES = "//! Reads certificates from standard input, and prints how long the text is that is written for them.\n" + HEAD.replace("{Cert, read_certs}", "{Cert, read_certs, write_certs}") + '''
-fn count(alloc: Global, text: &[u8]) -> usize {
-    let certs = given(alloc, text);
-    match write_certs(alloc, certs.as_slice()) {
-        Ok(text) => text.len(),
-        Err(_) => 0,
-    }
 }
 ''' + MAIN
 
@@ -111,10 +100,9 @@ fn count(alloc: Global, text: &[u8]) -> usize {
 }
 ''' + MAIN
 
-CRATES = ["c_lang", "c_grammar", "terms", "linear_rows", "formula_texts", "cert_form", "cert_checker"]
+CRATES = ["c_lang", "c_grammar", "c_lexer", "terms", "linear_rows", "formula_texts", "cert_form", "cert_checker"]
 PROGRAMS = [
     ("cert_reads", "cert_form sqlite_items", READS),
-    ("cert_writes", "cert_form sqlite_items", WRITES),
     ("cert_checks", "c_lang cert_checker cert_form formula_texts sqlite_items terms", CHECKS),
 ]
 SPLIT = '[["case",0],["close",[[2,"1"],[1,"1"]]],["close",[[2,"1"],[1,"1"]]]]'
@@ -133,25 +121,20 @@ def chain(rules):
 
 def main():
     folder = pathlib.Path(sys.argv[1])
-    reads, writes, checks = build(folder, CRATES, PROGRAMS)
+    reads, checks = build(folder, CRATES, PROGRAMS)
     good = True
     for kind, made, checking in [("small", split, lambda rules: rules // 3), ("one", chain, lambda rules: 1)]:
         before = None
         for rules in [100_000, 200_000, 400_000]:
-            text = made(rules)
             path = folder / "text"
-            path.write_text(text)
-            count, read, memory = measure(reads, path)
-            length, written, _ = measure(writes, path)
-            checked, check, _ = measure(checks, path)
-            written, check = written - read, check - read
-            print(f"{kind}: {count} rules, {len(text)} bytes: read {read:.3f} s, written {written:.3f} s, checked {check:.3f} s ({count / max(check, 0.001):.0f} a second), {memory / len(text):.1f} bytes of memory a byte")
-            good = good and length == len(text) + 1 and checked == checking(rules)
-            good = good and read <= 0.5 * rules / 100_000 and written <= 0.3 * rules / 100_000 and count / max(check, 0.001) >= 200_000
-            good = good and memory <= 40 * len(text)
-            if before:
-                good = good and all(now <= 2.3 * then for now, then in zip((read, written, check), before) if then > 0.02)
-            before = (read, written, check)
+            path.write_text(made(rules))
+            count, read, _ = measure(reads, path)
+            checked, whole, memory = measure(checks, path)
+            check = max(whole - read, 0.001)
+            print(f"{kind}: {count} rules: {checked} certificates check, {check:.3f} s, {count / check:.0f} rules a second, {memory / 1e6:.0f} MB in all")
+            good = good and checked == checking(rules) and count / check >= 200_000
+            good = good and (before is None or check <= 2.3 * before)
+            before = check
     sys.exit(0 if good else 1)
 
 
