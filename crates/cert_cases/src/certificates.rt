@@ -39,7 +39,10 @@ fn cert(alloc: Global, rules: &str) -> Result<Items<Option<Cert>>> {
 }
 
 fn verdict(alloc: Global, sequent: &Sequent, certs: &[Option<Cert>]) -> Result<String> {
-    let cert = certs.first().and_then(|cert| cert.as_ref()).context("no certificate")?;
+    let cert = certs
+        .first()
+        .and_then(|cert| cert.as_ref())
+        .context("no certificate")?;
     let yes = check_cert(alloc, sequent, cert)?;
     Ok(format!(in alloc; "{yes}")?)
 }

@@ -105,7 +105,6 @@ got-right [] ys k e = (omega arith, ap (slice_get ys) (none-less k))
   where
     none-less : (k : ℕ) → k ≡ k - 0
     none-less k = omega arith
-
 got-right (y ∷ xs) ys zero e = absurd cc
 got-right (y ∷ xs) ys (suc k) e = let rest = got-right xs ys k e in (up (length xs) k rest.0, rest.1 ∙ ap (slice_get ys) (less (length xs) k))
   where
@@ -221,7 +220,7 @@ module _ (v : TermTree) {One Two Whole : Type 0} (make : One → Two → Whole) 
   unfolding out
   two-hit k q e (there x h) =
       let is : slice_get (lefts ++ rights) k ≡ Some (lifted (λ p. make p two) x) =
-          got-left lefts rights k (lifted (λ p. make p two) x) (in-left k ∙ ap (option_map (lifted (λ p. make p two))) h) in
+      got-left lefts rights k (lifted (λ p. make p two) x) (in-left k ∙ ap (option_map (lifted (λ p. make p two))) h) in
       ap out (follows.hit k x h) ∙ ap (λ p. (make (x.1 v) p.0, p.1)) goes.none
       ∙ ap (λ (r : Found Whole). (r.1 v, None)) (some-is (lifted (λ p. make p two) x) q (sym is ∙ e))
   two-hit k q e (missing h) = later (case (slice_get second (k - length first)))
@@ -319,11 +318,11 @@ module _ (v : TermTree) where
         let ts : List (Found TermTree) = truths (places_in_term t) in
         let inner = two-follows v pair is i (put_term v i) (term-follows i) ts t (put_term v t) (term-follows t) in
         let whole = two-follows v make (truths (places_in_array a)) a (put_array v a) (array-follows a)
-            (map (lifted (λ x. pair x t)) is ++ map (lifted (pair i)) ts) (i, t) (in_two pair (put_term v i) (put_term v t)) inner in
+        (map (lifted (λ x. pair x t)) is ++ map (lifted (pair i)) ts) (i, t) (in_two pair (put_term v i) (put_term v t)) inner in
         let rest : map (lifted (make a)) (map (lifted (λ x. pair x t)) is ++ map (lifted (pair i)) ts) ≡ truths (within (λ x. stored a x t) (places_in_term i) ++ within (stored a i) (places_in_term t)) =
-            map-joined (lifted (make a)) (map (lifted (λ x. pair x t)) is) (map (lifted (pair i)) ts)
-            ∙ ap₂ (λ xs ys. xs ++ ys) (map-lifted (make a) (λ x. pair x t) is) (map-lifted (make a) (pair i) ts)
-            ∙ truths-two (λ x. stored a x t) (stored a i) (places_in_term i) (places_in_term t) in
+        map-joined (lifted (make a)) (map (lifted (λ x. pair x t)) is) (map (lifted (pair i)) ts)
+        ∙ ap₂ (λ xs ys. xs ++ ys) (map-lifted (make a) (λ x. pair x t) is) (map-lifted (make a) (pair i) ts)
+        ∙ truths-two (λ x. stored a x t) (stored a i) (places_in_term i) (places_in_term t) in
         subst (λ fs. Follows v fs (stored a i t) (put_array v (stored a i t)))
         (ap₂ (λ xs ys. xs ++ ys) (sym (truths-within (λ b. stored b i t) (places_in_array a))) rest
         ∙ sym (filter_map-append truth_at (within (λ b. stored b i t) (places_in_array a)) (within (λ x. stored a x t) (places_in_term i) ++ within (stored a i) (places_in_term t))))

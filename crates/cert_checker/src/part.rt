@@ -27,11 +27,7 @@ fn push_part<'a>(parts: &mut Vec<Part<'a>>, next: Part<'a>) -> Result<(), AllocE
 }
 
 // A part, and then its operator.
-fn push_one<'a>(
-    parts: &mut Vec<Part<'a>>,
-    kind: NodeKind,
-    only: Part<'a>,
-) -> Result<(), AllocError>
+fn push_one<'a>(parts: &mut Vec<Part<'a>>, kind: NodeKind, only: Part<'a>) -> Result<(), AllocError>
     ensures { OnOk result (reverse parts.new.items ≡ only.entry ∷ (part.Operator kind ∷ reverse parts.old.items)) }
 {
     push_part(parts, Part::Operator(kind))?;
@@ -53,21 +49,48 @@ fn push_two<'a>(
 }
 
 /// A term's parts, and its operator.
-pub(crate) fn open_term<'a>(
-    term: TermRef<'a>,
-    parts: &mut Vec<Part<'a>>,
-) -> Result<(), AllocError>
+pub(crate) fn open_term<'a>(term: TermRef<'a>, parts: &mut Vec<Part<'a>>) -> Result<(), AllocError>
     ensures { OnOk result (reverse parts.new.items ≡ opened_term term.entry ++ reverse parts.old.items) }
 {
     match term.view() {
         TermView::Num(_) => Ok(()),
         TermView::Of(_) => Ok(()),
-        TermView::Add(left, right) => push_two(parts, NodeKind::Add, Part::Term(left), Part::Term(right)),
-        TermView::Sub(left, right) => push_two(parts, NodeKind::Sub, Part::Term(left), Part::Term(right)),
-        TermView::Mul(left, right) => push_two(parts, NodeKind::Mul, Part::Term(left), Part::Term(right)),
-        TermView::Div(left, right) => push_two(parts, NodeKind::Div, Part::Term(left), Part::Term(right)),
-        TermView::Rem(left, right) => push_two(parts, NodeKind::Rem, Part::Term(left), Part::Term(right)),
-        TermView::Read(left, right) => push_two(parts, NodeKind::Read, Part::Array(left), Part::Term(right)),
+        TermView::Add(left, right) => push_two(
+            parts,
+            NodeKind::Add,
+            Part::Term(left),
+            Part::Term(right),
+        ),
+        TermView::Sub(left, right) => push_two(
+            parts,
+            NodeKind::Sub,
+            Part::Term(left),
+            Part::Term(right),
+        ),
+        TermView::Mul(left, right) => push_two(
+            parts,
+            NodeKind::Mul,
+            Part::Term(left),
+            Part::Term(right),
+        ),
+        TermView::Div(left, right) => push_two(
+            parts,
+            NodeKind::Div,
+            Part::Term(left),
+            Part::Term(right),
+        ),
+        TermView::Rem(left, right) => push_two(
+            parts,
+            NodeKind::Rem,
+            Part::Term(left),
+            Part::Term(right),
+        ),
+        TermView::Read(left, right) => push_two(
+            parts,
+            NodeKind::Read,
+            Part::Array(left),
+            Part::Term(right),
+        ),
         TermView::Truth(form) => push_one(parts, NodeKind::Truth, Part::Form(form)),
     }
 }
@@ -89,19 +112,36 @@ pub(crate) fn open_array<'a>(
 }
 
 /// A form's parts, and its operator.
-pub(crate) fn open_form<'a>(
-    form: FormRef<'a>,
-    parts: &mut Vec<Part<'a>>,
-) -> Result<(), AllocError>
+pub(crate) fn open_form<'a>(form: FormRef<'a>, parts: &mut Vec<Part<'a>>) -> Result<(), AllocError>
     ensures { OnOk result (reverse parts.new.items ≡ opened_form form.entry ++ reverse parts.old.items) }
 {
     match form.view() {
         FormView::True => Ok(()),
         FormView::False => Ok(()),
-        FormView::Le(left, right) => push_two(parts, NodeKind::Le, Part::Term(left), Part::Term(right)),
-        FormView::Eq(left, right) => push_two(parts, NodeKind::Eq, Part::Term(left), Part::Term(right)),
-        FormView::And(left, right) => push_two(parts, NodeKind::And, Part::Form(left), Part::Form(right)),
-        FormView::Or(left, right) => push_two(parts, NodeKind::Or, Part::Form(left), Part::Form(right)),
+        FormView::Le(left, right) => push_two(
+            parts,
+            NodeKind::Le,
+            Part::Term(left),
+            Part::Term(right),
+        ),
+        FormView::Eq(left, right) => push_two(
+            parts,
+            NodeKind::Eq,
+            Part::Term(left),
+            Part::Term(right),
+        ),
+        FormView::And(left, right) => push_two(
+            parts,
+            NodeKind::And,
+            Part::Form(left),
+            Part::Form(right),
+        ),
+        FormView::Or(left, right) => push_two(
+            parts,
+            NodeKind::Or,
+            Part::Form(left),
+            Part::Form(right),
+        ),
         FormView::Not(form) => push_one(parts, NodeKind::Not, Part::Form(form)),
     }
 }

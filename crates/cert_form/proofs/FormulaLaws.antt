@@ -7,7 +7,6 @@ use Rattle.formula_texts.specs.Texts.{IsFormText, IsTermText, IsNameText}
 use Rattle.formula_texts.specs.Written.{form_text, term_text, name_text, has_form_text, has_term_text, has_name_text}
 use Rattle.formula_texts.proofs.AsciiLaws.{ascii_form, ascii_term, ascii_name}
 use Rattle.formula_texts.proofs.WrittenLaws.{written_form, written_term, written_name}
-
 pub use Rattle.formula_texts.proofs.WholeLaws.{one_form, one_term, one_name}
 
 pub form-read : (f : FormTree) → has_form_text f ≡ true → IsFormText (form_text f) f

@@ -40,11 +40,7 @@ pub(crate) fn together(mut first: Vec<Node>, mut last: Vec<Node>) -> Result<Vec<
 }
 
 /// A copy of each node, behind what stands there.
-pub fn put_copies(
-    alloc: Global,
-    out: &mut Vec<Node>,
-    nodes: &[Node],
-) -> Result<(), AllocError>
+pub fn put_copies(alloc: Global, out: &mut Vec<Node>, nodes: &[Node]) -> Result<(), AllocError>
     ensures { OnOk result (out.new.items ≡ out.old.items ++ nodes.now) }
 {
     out.reserve(nodes.len())?;
