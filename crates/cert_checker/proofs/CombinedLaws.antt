@@ -8,8 +8,8 @@ use Rattle.terms.specs.declared.fact.Fact.{Fact}
 use Rattle.terms.specs.Trees.{TermTree}
 use Rattle.cert_checker.specs.Linear.{Multiple, Sum, scaled_multiples}
 use Rattle.cert_checker.specs.Rows.{Line, row_at, nothing, plus_multiple, may_be_added, checked_plus, added, combination}
-use Rattle.cert_checker.specs.Numbering.{has_atom, with_atom, with_atoms, IsRow}
-use Rattle.cert_checker.specs.Code.SumRows.{have_numbers, IsSumRow}
+use Rattle.cert_checker.specs.Numbering.{has_atom, with_atom, with_atoms, IsRow, have_numbers}
+use Rattle.cert_checker.specs.Code.SumRows.{IsSumRow}
 use Rattle.cert_checker.specs.Code.Steps.{number_row, Grown}
 use Rattle.cert_checker.specs.Code.Combined.{IsRowAt, may_add, IsCheckedSum, sum_for, IsCombined, Combines, next_line, AddsTo, IsAdding}
 use Rattle.cert_checker.proofs.Choices.{and_right, and_true}

@@ -14,8 +14,8 @@ use Rattle.cert_checker.specs.declared.step.Step.TheVariants as step
 use Rattle.cert_checker.specs.declared.step.Operation.{Operation}
 use Rattle.cert_checker.specs.declared.step.Operation.TheVariants as operation
 use Rattle.cert_checker.specs.Linear.{Multiple, Sum, scaled_multiples, number_sum, atom_sum, scaled_sum, total, difference, sum_of, linear_terms, sum_is_small}
-use Rattle.cert_checker.specs.Numbering.{atom_number, has_atom, with_atom, with_atoms, at_point}
-use Rattle.cert_checker.specs.Code.SumRows.{IsSumRow, have_numbers}
+use Rattle.cert_checker.specs.Numbering.{atom_number, has_atom, with_atom, with_atoms, at_point, have_numbers}
+use Rattle.cert_checker.specs.Code.SumRows.{IsSumRow}
 use Rattle.cert_checker.specs.Code.Steps.{number_row, atom_row, turned, less_one, literal_of, operands, sums_behind, rows_behind, first_fits, first_small, sum_after, are_small_after, atoms_after, Goal, ComesTo, GoesOn, IsApplied, Shape, a_number, a_total, a_difference, a_multiple, an_atom, product_shape, shape_of, opened_steps, opened_rows, opened_atoms, opened_fits, IsOpened}
 use Rattle.cert_checker.proofs.Choices.{and_right, and_true}
 use Rattle.cert_checker.proofs.NumberingLaws.{row-grown, has-itself, number-is, atom-is, plus-is, total-is, scaled-is, numbers-scaled}

@@ -27,3 +27,4 @@ pub mod BranchLaws
 pub mod OrderLaws
 pub mod RoundRowLaws
 pub mod PlaceFindLaws
+pub mod NumberedLaws

@@ -10,8 +10,8 @@ use Rattle.terms.specs.Equality.{same_term}
 use Rattle.terms.specs.Code.EqualityLaws.{same_term-equal, same_term-refl}
 use Rattle.terms.specs.Trees.{TermTree}
 use Rattle.cert_checker.specs.Linear.{Multiple, Sum, scaled_multiples, scaled_sum, number_sum, atom_sum, total}
-use Rattle.cert_checker.specs.Numbering.{atom_number, has_atom, at_point}
-use Rattle.cert_checker.specs.Code.SumRows.{have_numbers, IsSumRow}
+use Rattle.cert_checker.specs.Numbering.{atom_number, has_atom, at_point, have_numbers}
+use Rattle.cert_checker.specs.Code.SumRows.{IsSumRow}
 use Rattle.cert_checker.proofs.Choices.{by_bool, and_left, and_right, and_true}
 use Rattle.cert_checker.proofs.WorthLaws.{weighed-append, weighed-scaled, one-times}
 

@@ -16,8 +16,8 @@ use Rattle.terms.specs.Trees.{TermTree}
 use Rattle.terms.specs.Valuations.{is_small}
 use Rattle.cert_checker.specs.Linear.{Multiple, Sum, atoms, are_small, sum_is_small}
 use Rattle.cert_checker.specs.Linear.{coefficient as term_coefficient}
-use Rattle.cert_checker.specs.Numbering.{atom_number, has_atom, at_point}
-use Rattle.cert_checker.specs.Code.SumRows.{have_numbers, IsSumRow}
+use Rattle.cert_checker.specs.Numbering.{atom_number, has_atom, at_point, have_numbers}
+use Rattle.cert_checker.specs.Code.SumRows.{IsSumRow}
 use Rattle.cert_checker.proofs.Choices.{by_bool, and_left, and_right, and_true}
 use Rattle.cert_checker.proofs.NumberingLaws.{number-tells}
 

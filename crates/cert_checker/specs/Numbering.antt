@@ -1,6 +1,6 @@
 -- Rows over numbered atoms.
 use Rattle.std.specs.Prelude.{◌≡◌, ℕ, ℤ, Bool, true, if◌then◌else◌, List, [], ◌∷◌, ◌++◌, Option, Some, None, is_some, Result, Ok, Err}
-use Rattle.std.specs.List.{list_any, position_or_len}
+use Rattle.std.specs.List.{list_any, list_all, position_or_len}
 use Rattle.linear_rows.specs.declared.row.Row.{Row}
 use Rattle.linear_rows.specs.declared.row.RowFail.{RowFail}
 use Rattle.linear_rows.specs.declared.row.RowFail.TheVariants.{NoMemory, Wide}
@@ -30,6 +30,10 @@ with_atoms atoms (m ∷ ms) = with_atoms (with_atom atoms m.0) ms
 -- what multiples come to where each atom stands for the number that a point gives its number
 abbrev pub at_point : (ℕ → ℤ) → List TermTree → List Multiple → ℤ
 at_point point atoms ms = weighed (λ t. point (atom_number atoms t)) ms
+
+-- every atom of the multiples has a number
+abbrev pub have_numbers : List TermTree → List Multiple → Bool
+have_numbers atoms ms = list_all (λ m. has_atom atoms m.0) ms
 
 -- a row over these atoms that says what a line says
 pub record IsRow (atoms : List TermTree) (line : Line) (row : Row) : Type 0 where

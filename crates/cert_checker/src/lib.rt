@@ -29,5 +29,5 @@ mod truth;
 pub use atoms::{Atoms, row_of};
 pub use check::check_cert;
 pub use child::children;
-pub use laws::{checked_is_valid, row_is_true, rule_is_sound, rules_follow};
+pub use laws::{checked_is_valid, numbered_row_is_true, row_is_true, rule_is_sound, rules_follow};
 pub use start::opening;

@@ -1,15 +1,10 @@
 -- The rows of sums, whose bound is the sum's constant.
-use Rattle.std.specs.Prelude.{◌≡◌, ℕ, ℤ, Bool, true, List}
-use Rattle.std.specs.List.{list_all}
+use Rattle.std.specs.Prelude.{◌≡◌, ℕ, ℤ, true, List}
 use Rattle.linear_rows.specs.declared.row.Row.{Row}
 use Rattle.linear_rows.specs.Sums.{IsInForm, dot}
 use Rattle.terms.specs.Trees.{TermTree}
-use Rattle.cert_checker.specs.Linear.{Multiple, Sum}
-use Rattle.cert_checker.specs.Numbering.{has_atom, at_point}
-
--- every atom of the multiples has a number
-abbrev pub have_numbers : List TermTree → List Multiple → Bool
-have_numbers atoms ms = list_all (λ m. has_atom atoms m.0) ms
+use Rattle.cert_checker.specs.Linear.{Sum}
+use Rattle.cert_checker.specs.Numbering.{at_point, have_numbers}
 
 pub record IsSumRow (atoms : List TermTree) (s : Sum) (row : Row) : Type 0 where
   pub in_form : IsInForm row
