@@ -21,7 +21,7 @@ use Rattle.merged_program.proofs.AddedNames.{one, found_added}
 use Rattle.merged_types.proofs.EntryLaws.{absent_from, added_behind}
 use Rattle.merged_types.proofs.Carrying.{some_is}
 use Rattle.merged_types.proofs.CarriedScopes.{HasUpdate}
-use Rattle.merged_types.proofs.ResolvedTyping.{IsInt, IsVariable, IsResolved, IsResolvedCall, IsResolvedStatement, AreResolved}
+use Rattle.resolved_types.proofs.ResolvedTyping.{IsInt, IsVariable, IsResolved, IsResolvedCall, IsResolvedStatement, AreResolved}
 
 -- ---- tests of a number
 

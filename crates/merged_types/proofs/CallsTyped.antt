@@ -25,7 +25,7 @@ use Rattle.merged_program.specs.Programs.{parameters_from, wrapper, starting}
 use Rattle.merged_program.proofs.MergedNames.{by_bool, bytes_eq-refl}
 use Rattle.merged_program.proofs.AddedNames.{one, found_added}
 use Rattle.merged_types.proofs.EntryLaws.{absent_from, added_behind}
-use Rattle.merged_types.proofs.ResolvedTyping.{IsVariable, IsResolvedCall, IsResolvedReturn, AreResolvedArguments, AreResolved}
+use Rattle.resolved_types.proofs.ResolvedTyping.{IsVariable, IsResolvedCall, IsResolvedReturn, AreResolvedArguments, AreResolved}
 use Rattle.merged_types.proofs.AskingTyped.{outside_means, set_test}
 use Rattle.merged_types.proofs.ResolvedFuncs.{IsResolvedFunc}
 use Rattle.merged_types.proofs.MergedFuncs.{joined, zero_at, zero_behind}

@@ -18,7 +18,7 @@ use Rattle.merged_program.specs.Expressions.{renamed_dest, renamed_option}
 use Rattle.merged_types.proofs.Carrying.{IsKeptCode, in_region, expression_here, expressions_here, kind_carried, expression_carried, arguments_carried}
 use Rattle.merged_types.proofs.CarriedScopes.{Renaming, IsCarried, codes_carried, names_carried, kind_of_dest_carried, use_carried, dest_carried}
 use Rattle.written_laws.proofs.StatementFits.{DeclaresNothing}
-use Rattle.merged_types.proofs.ResolvedTyping.{IsResolved, AreResolvedArguments, IsResolvedCall, IsResolvedCallBy, IsResolvedReturn}
+use Rattle.resolved_types.proofs.ResolvedTyping.{IsResolved, AreResolvedArguments, IsResolvedCall, IsResolvedCallBy, IsResolvedReturn}
 
 module _ (R : Renaming) (region : Region) (s t : Scope) (c : IsCarried R region s t) where
   abbrev ρ : Bytes → Bytes

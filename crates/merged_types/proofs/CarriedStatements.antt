@@ -26,7 +26,7 @@ use Rattle.merged_types.proofs.EntryLaws.{renamed_entries, apart_found}
 use Rattle.merged_types.proofs.Carrying.{expression_here}
 use Rattle.merged_types.proofs.CarriedScopes.{IsNaming, HasUpdate, Renaming, IsAt, SeesBehind, SeesPicks, IsSeen, AreTold, IsCarried, dest_carried, block_carried, locals_dest, cells_dest, told_dest, told_choice}
 use Rattle.merged_types.proofs.CarriedCalls.{expression, array, place, call_carried, call_by_carried, return_carried, answer_carried, from_picked, in_each_block, still_ahead}
-use Rattle.merged_types.proofs.ResolvedTyping.{IsResolved, IsResolvedPicked, IsResolvedPick, picked_has, IsResolvedStatement, AreResolved}
+use Rattle.resolved_types.proofs.ResolvedTyping.{IsResolved, IsResolvedPicked, IsResolvedPick, picked_has, IsResolvedStatement, AreResolved}
 use Rattle.merged_types.proofs.AskingTyped.{set_test, outside_means, asking_resolved, forcing_resolved}
 
 may_force : (b : Block) (s : Scope) (x : Statement) → IsResolvedStatement b s x → is_force x ≡ true → MayForce s.forced

@@ -13,8 +13,8 @@ use Rattle.version_names.specs.Parts.{Parts}
 use Rattle.client_specs.specs.declared.region.Region.{Region}
 use Rattle.client_specs.specs.Spelled.{spelled, spelled_expression}
 use Rattle.merged_program.specs.Expressions.{renamed, all_renamed}
-use Rattle.merged_types.proofs.ResolvedTyping.{IsVariable, IsResolved, AreResolvedArguments}
-use Rattle.merged_types.proofs.ResolvedSources.{place_by}
+use Rattle.resolved_types.proofs.ResolvedTyping.{IsVariable, IsResolved, AreResolvedArguments}
+use Rattle.resolved_types.proofs.ResolvedSources.{place_by}
 
 -- ---- names
 

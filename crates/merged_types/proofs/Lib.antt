@@ -1,7 +1,3 @@
-mod Resolution
-mod ResolvedTyping
-mod SameScopes
-mod ResolvedSources
 mod PlainTyping
 mod EntryLaws
 mod Carrying

@@ -26,7 +26,7 @@ use Rattle.c_types.proofs.Combined.{both_true}
 use Rattle.merged_program.proofs.MergedNames.{by_bool}
 use Rattle.c_lang.proofs.TreeLemmas.{statements_back}
 use Rattle.merged_types.proofs.EntryLaws.{renamed_added}
-use Rattle.merged_types.proofs.ResolvedTyping.{IsResolvedReturn, AreResolved}
+use Rattle.resolved_types.proofs.ResolvedTyping.{IsResolvedReturn, AreResolved}
 use Rattle.merged_types.proofs.ResolvedFuncs.{IsResolvedFrom, IsResolvedFunc}
 use Rattle.merged_types.proofs.SameFlow.{flow_merged_list}
 use Rattle.merged_types.proofs.Unspelled.{no_parts, same_statements}

@@ -15,10 +15,10 @@ use Rattle.c_types.specs.Statements.{scope_after, block_in, entered, after_block
 use Rattle.c_types.specs.Typing.{IsValue, IsFunction, IsLiteral, IsPointer, IsTyped, AreArguments, IsCall, IsReturn, IsPicked, IsPick, IsTypedStatement, AreTyped}
 use Rattle.c_types.specs.Plain.{plain_expression, plain_statement, plain_statements}
 use Rattle.c_types.proofs.StatementsTyped.{array_kind}
-use Rattle.merged_types.proofs.Resolution.{name_tree, literal_tree, tree, trees, call_tree, picked_tree, pick_tree, statement_tree, list_tree}
-use Rattle.merged_types.proofs.ResolvedTyping.{IsInt, IsVariable, IsResolved, AreResolvedArguments, IsResolvedCall, IsResolvedCallBy, IsResolvedReturn, IsResolvedPicked, IsResolvedPick, IsResolvedStatement, AreResolved}
-use Rattle.merged_types.proofs.ResolvedSources.{place_by, function_int}
-use Rattle.merged_types.proofs.SameScopes.{DeclaresSame, DeclareSame, declare_nothing, declare_more, declares_if, declares_while, same_after, same_entered, same_after_block}
+use Rattle.resolved_types.proofs.Resolution.{name_tree, literal_tree, tree, trees, call_tree, picked_tree, pick_tree, statement_tree, list_tree}
+use Rattle.resolved_types.proofs.ResolvedTyping.{IsInt, IsVariable, IsResolved, AreResolvedArguments, IsResolvedCall, IsResolvedCallBy, IsResolvedReturn, IsResolvedPicked, IsResolvedPick, IsResolvedStatement, AreResolved}
+use Rattle.resolved_types.proofs.ResolvedSources.{place_by, function_int}
+use Rattle.resolved_types.proofs.SameScopes.{DeclaresSame, DeclareSame, declare_nothing, declare_more, declares_if, declares_while, same_after, same_entered, same_after_block}
 use Rattle.c_types.proofs.PlainLaws.{element_int}
 
 -- ---- expressions

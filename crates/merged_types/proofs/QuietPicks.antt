@@ -10,7 +10,7 @@ use Rattle.c_types.specs.Bodies.{body_of}
 use Rattle.written_laws.specs.Walk.{Context, Throughout, ThroughoutAll, in_loop, past, past_all, start_of}
 use Rattle.written_laws.proofs.StatementFits.{HasTarget}
 use Rattle.written_laws.proofs.WrittenLaws.{targets}
-use Rattle.merged_types.proofs.ResolvedSources.{PicksDeclareNothing, AllPicksDeclareNothing}
+use Rattle.resolved_types.proofs.ResolvedSources.{PicksDeclareNothing, AllPicksDeclareNothing}
 use Rattle.merged_types.proofs.PlainPrograms.{Each}
 
 abbrev Says : Context → Statement → Type 0

@@ -14,10 +14,10 @@ use Rattle.c_types.specs.Types.{AreNarrow, AreParams, IsTypedFrom, IsTypedFunc}
 use Rattle.c_types.specs.Plain.{plain_statements, plain_func, built_func}
 use Rattle.c_types.proofs.FunctionLaws.{plain_body as plain_inside}
 use Rattle.c_lang.proofs.TreeLemmas.{statements_back}
-use Rattle.merged_types.proofs.Resolution.{list_tree, list_built}
-use Rattle.merged_types.proofs.ResolvedTyping.{AreResolved}
-use Rattle.merged_types.proofs.SameScopes.{same_begun}
-use Rattle.merged_types.proofs.ResolvedSources.{trees_declare, AllPicksDeclareNothing, plain_all_picks, list_resolved}
+use Rattle.resolved_types.proofs.Resolution.{list_tree, list_built}
+use Rattle.resolved_types.proofs.ResolvedTyping.{AreResolved}
+use Rattle.resolved_types.proofs.SameScopes.{same_begun}
+use Rattle.resolved_types.proofs.ResolvedSources.{trees_declare, AllPicksDeclareNothing, plain_all_picks, list_resolved}
 use Rattle.merged_types.proofs.PlainTyping.{ArePlain, plain_declare, list_plain}
 use Rattle.merged_types.proofs.SameFlow.{flow_list_tree, flow_plain_list}
 

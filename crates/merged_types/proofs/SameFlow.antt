@@ -18,8 +18,8 @@ use Rattle.client_specs.specs.declared.region.Region.TheVariants.{After, Before}
 use Rattle.client_specs.specs.Spelled.{region_after, spelled_expression, spelled_statement, spelled_statements}
 use Rattle.merged_program.specs.Expressions.{renamed}
 use Rattle.merged_program.specs.Statements.{asking, merged_statement, merged_statements}
-use Rattle.merged_types.proofs.Resolution.{name_tree, tree, call_tree, pick_tree, statement_tree, list_tree}
-use Rattle.merged_types.proofs.ResolvedTyping.{IsResolvedPicked, IsResolvedPick, picked_has, IsResolvedStatement, AreResolved}
+use Rattle.resolved_types.proofs.Resolution.{name_tree, tree, call_tree, pick_tree, statement_tree, list_tree}
+use Rattle.resolved_types.proofs.ResolvedTyping.{IsResolvedPicked, IsResolvedPick, picked_has, IsResolvedStatement, AreResolved}
 
 record FlowsSame (a b : Statement) : Type 0 where
   breaks : breaks a ≡ breaks b

@@ -16,10 +16,10 @@ use Rattle.c_types.specs.Calls.{place_in, ints, places_of, picked}
 use Rattle.c_types.specs.Statements.{dest_of, scope_after, block_in, entered, after_block}
 use Rattle.c_types.specs.Typing.{IsValue, IsFunction, IsLiteral, IsTyped, AreArguments, IsCall, IsCallBy, IsReturn, IsPicked, IsPick, IsTypedStatement, AreTyped}
 use Rattle.c_types.proofs.StatementsTyped.{array_kind}
-use Rattle.merged_types.proofs.Resolution.{name_tree, literal_tree, tree, trees, call_tree, statement_tree, list_tree, picked_tree, pick_tree}
+use Rattle.resolved_types.proofs.Resolution.{name_tree, literal_tree, tree, trees, call_tree, statement_tree, list_tree, picked_tree, pick_tree}
 use Rattle.written_laws.proofs.StatementFits.{DeclaresNothing}
-use Rattle.merged_types.proofs.ResolvedTyping.{IsVariable, IsResolved, AreResolvedArguments, IsResolvedCall, IsResolvedCallBy, IsResolvedReturn, IsResolvedPicked, IsResolvedPick, IsResolvedStatement, AreResolved}
-use Rattle.merged_types.proofs.SameScopes.{DeclaresSame, DeclareSame, declare_nothing, declare_more, declares_if, declares_while, same_after, same_entered, same_after_block}
+use Rattle.resolved_types.proofs.ResolvedTyping.{IsVariable, IsResolved, AreResolvedArguments, IsResolvedCall, IsResolvedCallBy, IsResolvedReturn, IsResolvedPicked, IsResolvedPick, IsResolvedStatement, AreResolved}
+use Rattle.resolved_types.proofs.SameScopes.{DeclaresSame, DeclareSame, declare_nothing, declare_more, declares_if, declares_while, same_after, same_entered, same_after_block}
 use Rattle.c_types.specs.Functions.{IsPlain}
 use Rattle.c_types.proofs.FunctionLaws.{plain_after, no_pick}
 use Rattle.c_types.proofs.PlainLaws.{element_int}

@@ -1,0 +1,3 @@
+pub mod KindedValues
+pub mod Arithmetic
+pub mod Evaluated

@@ -1,0 +1,4 @@
+pub mod SameScopes
+pub mod Resolution
+pub mod ResolvedTyping
+pub mod ResolvedSources
