@@ -1,0 +1,6 @@
+//! What hints say of a program: the contracts of functions and the invariants of loops.
+#![tactic(auto)]
+
+mod hints;
+
+pub use hints::{Contract, Hints};
