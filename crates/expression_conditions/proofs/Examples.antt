@@ -44,5 +44,5 @@ b1 : form n o ≡ either (denied (denied (equal r (number (pos 0))))) (denied (e
 b1 = refl
 
 b2 : own n o ≡ (record { given = []; goal = both (at_most (number (pos 0)) (name (current x))) (at_most (name (current x)) (number (pos 7))); what = what.Index })
-   ∷ ((record { given = denied (denied (denied (equal r (number (pos 0))))) ∷ []; goal = both (at_most (number (negsuc 2147483647)) (minus (number (pos 0)) (name (current x)))) (at_most (minus (number (pos 0)) (name (current x))) (number (pos 2147483647))); what = what.Overflow }) ∷ [])
+    ∷ ((record { given = denied (denied (denied (equal r (number (pos 0))))) ∷ []; goal = both (at_most (number (negsuc 2147483647)) (minus (number (pos 0)) (name (current x)))) (at_most (minus (number (pos 0)) (name (current x))) (number (pos 2147483647))); what = what.Overflow }) ∷ [])
 b2 = refl

@@ -1,1 +1,2 @@
+pub mod DueLaws
 mod Examples

@@ -3,5 +3,7 @@
 #![tactic(auto)]
 
 mod meaning;
+mod owed;
 
 pub use meaning::{Meaning, form, val};
+pub use owed::{Given, Goal, Owed, own, own_all, own_element};

@@ -74,9 +74,7 @@ impl Meaning {
     fn denied(self, alloc: Global) -> Result<Meaning, AllocError>
         ensures { IfOk result (λ made. made ≡ meant.Condition (tree.denied (spec.as_condition self))) }
     {
-        Ok(Meaning::Condition(Form::denied(
-            self.into_condition(alloc)?,
-        )?))
+        Ok(Meaning::Condition(Form::denied(self.into_condition(alloc)?)?))
     }
 
     fn element(self, alloc: Global, array: &Name) -> Result<Meaning, AllocError>
@@ -127,30 +125,21 @@ impl Meaning {
     {
         let left = self.into_number()?;
         let more = Term::add(left, Term::number(alloc, 1)?)?;
-        Ok(Meaning::Condition(Form::at_most(
-            more,
-            right.into_number()?,
-        )?))
+        Ok(Meaning::Condition(Form::at_most(more, right.into_number()?)?))
     }
 
     fn at_most(self, right: Meaning) -> Result<Meaning, AllocError>
         ensures { IfOk result (λ made. made ≡ spec.operated op.Le self right) }
     {
         let left = self.into_number()?;
-        Ok(Meaning::Condition(Form::at_most(
-            left,
-            right.into_number()?,
-        )?))
+        Ok(Meaning::Condition(Form::at_most(left, right.into_number()?)?))
     }
 
     fn equal(self, right: Meaning) -> Result<Meaning, AllocError>
         ensures { IfOk result (λ made. made ≡ spec.operated op.Eq self right) }
     {
         let left = self.into_number()?;
-        Ok(Meaning::Condition(Form::equal(
-            left,
-            right.into_number()?,
-        )?))
+        Ok(Meaning::Condition(Form::equal(left, right.into_number()?)?))
     }
 
     fn unequal(self, right: Meaning) -> Result<Meaning, AllocError>
@@ -165,20 +154,14 @@ impl Meaning {
         ensures { IfOk result (λ made. made ≡ spec.operated op.And self right) }
     {
         let left = self.into_condition(alloc)?;
-        Ok(Meaning::Condition(Form::both(
-            left,
-            right.into_condition(alloc)?,
-        )?))
+        Ok(Meaning::Condition(Form::both(left, right.into_condition(alloc)?)?))
     }
 
     fn either(self, alloc: Global, right: Meaning) -> Result<Meaning, AllocError>
         ensures { IfOk result (λ made. made ≡ spec.operated op.Or self right) }
     {
         let left = self.into_condition(alloc)?;
-        Ok(Meaning::Condition(Form::either(
-            left,
-            right.into_condition(alloc)?,
-        )?))
+        Ok(Meaning::Condition(Form::either(left, right.into_condition(alloc)?)?))
     }
 
     fn operated(self, alloc: Global, op: Op, right: Meaning) -> Result<Meaning, AllocError>
@@ -218,11 +201,7 @@ fn joined(
 }
 
 #[cycle(meaning_of)]
-fn meaning_of(
-    alloc: Global,
-    names: &ProgramNames<'_>,
-    expr: &Expr,
-) -> Result<Meaning, AllocError>
+fn meaning_of(alloc: Global, names: &ProgramNames<'_>, expr: &Expr) -> Result<Meaning, AllocError>
     ensures { IfOk result (λ made. made ≡ spec.meaning (numbers_in names.now) (expression_of expr.now)) }
 {
     match expr {
