@@ -2,3 +2,4 @@ pub mod Numbers
 pub mod Meanings
 pub mod Owed
 pub mod Candidates
+pub mod Code

@@ -1,6 +1,9 @@
-//! What an expression stands for in formulas, and the conditions that it owes.
+//! What an expression stands for in formulas, which conditions it owes, and which functions a call through a
+//! pointer may reach.
 #![tactic(auto)]
 
-mod numbers;
+mod meaning;
+mod owed;
 
-pub use numbers::ProgramNumbers;
+pub use meaning::{Meaning, form, val};
+pub use owed::{Given, Goal, Owed, own, own_all, own_element};

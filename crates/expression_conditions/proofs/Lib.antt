@@ -1,0 +1,2 @@
+pub mod DueLaws
+mod Examples
