@@ -1,0 +1,4 @@
+pub mod Numbers
+pub mod Meanings
+pub mod Owed
+pub mod Candidates
