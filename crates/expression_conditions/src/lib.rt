@@ -1,6 +1,7 @@
-//! What an expression stands for in formulas, and the conditions that it owes.
+//! What an expression stands for in formulas, which conditions it owes, and which functions a call through a
+//! pointer may reach.
 #![tactic(auto)]
 
-mod numbers;
+mod meaning;
 
-pub use numbers::ProgramNumbers;
+pub use meaning::{Meaning, form, val};

@@ -1,0 +1,6 @@
+pub mod EntryNames
+pub mod Changing
+pub mod Context
+pub mod Annotated
+pub mod Annotating
+pub mod Wp

@@ -1,0 +1,2 @@
+//! The conditions under which no run of a program has a fault.
+#![tactic(auto)]
