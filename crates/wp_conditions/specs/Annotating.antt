@@ -70,6 +70,10 @@ abbrev mutual
   sets_in c tree.none = []
   sets_in c (tree.more s ss) = sets c s ++ sets_in c ss
 
+-- the place at which the body of a loop begins
+abbrev pub inside : Context → Statements → Place → Place
+inside c a at = record (renewed (sets_in c a) at) { loops = suc at.loops }
+
 -- the place behind a statement; a loop's own names come before those of its body
 abbrev mutual
   pub past : Context → Statement → Place → Place
@@ -93,10 +97,6 @@ abbrev mutual
   pub past_all : Context → Statements → Place → Place
   past_all c tree.none at = at
   past_all c (tree.more s ss) at = past_all c ss (past c s at)
-
-  -- the place at which the body of a loop begins
-  pub inside : Context → Statements → Place → Place
-  inside c a at = record (renewed (sets_in c a) at) { loops = suc at.loops }
 
 -- the statements of the function `func`, from a place on
 abbrev mutual

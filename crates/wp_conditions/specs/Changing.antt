@@ -40,8 +40,8 @@ storing a i t = record { numbers = []; arrays = (current a, stored (array (curre
 -- each of these names for the current value of its base
 abbrev pub renewing : List Sym → Changes
 renewing fresh = record {
-  numbers = map (λ x. current x.base, name x) fresh;
-  arrays = map (λ x. current x.base, array x) fresh;
+  numbers = map (λ x. (current x.base, name x)) fresh;
+  arrays = map (λ x. (current x.base, array x)) fresh;
 }
 
 -- the values at entry of the parameters from the k-th on
@@ -57,15 +57,15 @@ passing args = record { numbers = entry_values 1 args; arrays = [] }
 -- what it is now, and a parameter at entry is its argument.
 abbrev pub returning : List Bytes → List TermTree → List Sym → List Sym → Changes
 returning globals args result cells = record {
-  numbers = map (λ x. current result_base, name x) result
-      ++ (map (λ x. current x.base, name x) cells
-      ++ (map (λ g. global_at_entry g, name (current g)) globals ++ entry_values 1 args));
-  arrays = map (λ x. current x.base, array x) cells ++ map (λ g. global_at_entry g, array (current g)) globals;
+  numbers = map (λ x. (current result_base, name x)) result
+      ++ (map (λ x. (current x.base, name x)) cells
+      ++ (map (λ g. (global_at_entry g, name (current g))) globals ++ entry_values 1 args));
+  arrays = map (λ x. (current x.base, array x)) cells ++ map (λ g. (global_at_entry g, array (current g))) globals;
 }
 
 -- A body begins: a global and a parameter at entry are what they are now.
 abbrev pub entering : List Bytes → List Bytes → Changes
 entering globals params = record {
-  numbers = map (λ g. global_at_entry g, name (current g)) globals ++ entry_values 1 (map (λ x. name (current x)) params);
-  arrays = map (λ g. global_at_entry g, array (current g)) globals;
+  numbers = map (λ g. (global_at_entry g, name (current g))) globals ++ entry_values 1 (map (λ x. name (current x)) params);
+  arrays = map (λ g. (global_at_entry g, array (current g))) globals;
 }

@@ -4,3 +4,5 @@ pub mod Context
 pub mod Annotated
 pub mod Annotating
 pub mod Wp
+pub mod Sorts
+pub mod Conditions
