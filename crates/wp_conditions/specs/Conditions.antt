@@ -10,6 +10,8 @@ use Rattle.c_lang.specs.declared.unit.Pos.{Pos}
 use Rattle.c_lang.specs.declared.refusal.Refusal.{Refusal}
 use Rattle.c_lang.specs.declared.refusal.Fail.{Fail}
 use Rattle.c_lang.specs.declared.refusal.Fail.TheVariants.{NoMemory, Refused}
+use Rattle.c_lang.specs.Refusals.{refused_at, too_many_conditions}
+use Rattle.std.specs.Option.{option_map}
 use Rattle.c_lang.specs.declared.program.Shape.{Shape}
 use Rattle.c_lang.specs.declared.program.Shape.TheVariants as shape
 use Rattle.c_lang.specs.declared.program.GlobalVar.{GlobalVar}
@@ -143,3 +145,9 @@ first_too_many nodes (part ∷ rest) =
     if nat_lt condition_limit (part.before + length part.conditions) || nat_lt node_limit (nodes + sequents_size part.conditions)
     then Some part.func.pos
     else first_too_many (nodes + sequents_size part.conditions) rest
+
+-- What `conditions` answers: the whole list, or a refusal exactly where there is too much.
+abbrev pub AreConditions : Program → Hints → Result (List Sequent) Fail → Type 0
+AreConditions p hints (Ok made) = (made ≡ conds p hints) × (first_too_many 0 (parts p hints) ≡ None)
+AreConditions p hints (Err NoMemory) = ⊤
+AreConditions p hints (Err (Refused r)) = option_map (refused_at too_many_conditions) (first_too_many 0 (parts p hints)) ≡ Some r

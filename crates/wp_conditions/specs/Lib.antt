@@ -6,3 +6,4 @@ pub mod Annotating
 pub mod Wp
 pub mod Sorts
 pub mod Conditions
+pub mod Code
