@@ -13,7 +13,7 @@ use Rattle.wp_conditions.specs.Changing.{change, setting_at, storing, renewing, 
 use Rattle.wp_conditions.specs.Context.{Context}
 use Rattle.wp_conditions.specs.Annotated.{Annotated, aside, set, set_element, call, call_by, if_else, while_loop, break_loop, return_with, assert_that, input, output, choice, Body, none, more}
 use Rattle.wp_conditions.specs.Wp.{Condition, changed, under, implies, all_imply, goal_of, goals, owed_at, promised, asked, returned, is_function, cells_of, wp, wp_all}
-use Rattle.wp_conditions.specs.Code.Walk.{Round, Maker, given, under_all, behind, behind_call, in_loop, for_each, walk, walk_all}
+use Rattle.wp_conditions.specs.Code.Walk.{Round, Maker, Makes, given, under_all, behind, behind_call, in_loop, for_each, walk, walk_all}
 
 over_append : (k : Round) (a b : List Condition) → map k (a ++ b) ≡ map k a ++ map k b
 over_append k [] b = refl
@@ -27,10 +27,6 @@ over_all : (fs : List Fact) (l : List Condition) → all_imply fs l ≡ map (und
 over_all [] [] = refl
 over_all [] (s ∷ l) = ap (λ l. s ∷ l) (over_all [] l)
 over_all (f ∷ fs) l = ap (map (under f)) (over_all fs l) ∙ over_map (under f) (under_all fs) l
-
--- the maker makes this list, in every surrounding
-abbrev pub Makes : Maker → List Condition → Type 0
-Makes make l = (k : Round) → make k ≡ map k l
 
 -- two lists one after the other
 joined : (k : Round) (a b : List Condition) (l m : List Condition) → l ≡ map k a → m ≡ map k b → l ++ m ≡ map k (a ++ b)

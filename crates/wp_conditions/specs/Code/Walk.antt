@@ -1,6 +1,6 @@
 -- The same list, made from the front: what stands round a condition is carried along, and each condition is finished
 -- when it is made.
-use Rattle.std.specs.Prelude.{pos, List, [], ◌∷◌, ◌++◌, map, length, Option, Some, None}
+use Rattle.std.specs.Prelude.{◌≡◌, pos, List, [], ◌∷◌, ◌++◌, map, length, Option, Some, None}
 use Rattle.c_lang.specs.Names.{Bytes}
 use Rattle.terms.specs.declared.sym.Sym.{Sym}
 use Rattle.terms.specs.declared.fact.Fact.{Fact}
@@ -22,6 +22,10 @@ Round = Condition → Condition
 -- what is made, in every surrounding
 abbrev pub Maker : Type 0
 Maker = Round → List Condition
+
+-- it makes this list
+abbrev pub Makes : Maker → List Condition → Type 0
+Makes make l = (k : Round) → make k ≡ map k l
 
 abbrev pub given : FormTree → Round → Round
 given h k s = k (under (fact.Plain h) s)
