@@ -1,0 +1,2 @@
+-- The list as it is made from the front.
+pub mod Walk
