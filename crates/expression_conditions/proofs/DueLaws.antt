@@ -9,7 +9,7 @@ use Rattle.terms.specs.Trees.{FormTree, denied, number, plus, minus, times, divi
 use Rattle.expression_conditions.specs.Numbers.{Numbers}
 use Rattle.expression_conditions.specs.Meanings.{val, form}
 use Rattle.expression_conditions.specs.Owed.{Owed, under, own, own_all, own_element, fits, is_divisor, is_index, operator_owes, behind}
-use Rattle.expression_conditions.specs.Code.Due.{Given, holds, fails, Goal, within, Due, given_form, goal_owed, due_owed, operator_due, given_right, due}
+use Rattle.expression_conditions.specs.Code.Due.{Given, holds, fails, Goal, in_range, quotient_in_range, not_zero, within, goal_what, Due, given_form, goal_owed, due_owed, operator_due, given_right, due}
 
 -- where all of these are given
 abbrev under_all : List FormTree → Owed → Owed
@@ -98,3 +98,9 @@ due-element n a i e =
     map-append (due_owed n) (due [] i ++ due [] e) ((record { given = []; goal = within a i }) ∷ [])
     ∙ ap (λ x. x ++ is_index n a (val n i) ∷ []) (map-append (due_owed n) (due [] i) (due [] e) ∙ ap₂ (λ x y. x ++ y) (due-own n i) (due-own n e))
     ∙ append_assoc (own n i) (own n e) (is_index n a (val n i) ∷ [])
+
+pub what-is : (n : Numbers) (g : Goal) → (goal_owed n g).what ≡ goal_what g
+what-is n (in_range e) = refl
+what-is n (quotient_in_range a b) = refl
+what-is n (not_zero e) = refl
+what-is n (within a i) = refl

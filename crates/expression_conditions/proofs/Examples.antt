@@ -1,12 +1,12 @@
-use Rattle.std.proofs.Common.{◌≡◌, refl, pos, negsuc, List, [], ◌∷◌, codes}
+use Rattle.std.proofs.Common.{◌≡◌, refl, pos, negsuc, [], ◌∷◌, codes}
 use Rattle.c_lang.specs.Names.{Bytes}
-use Rattle.c_lang.specs.Trees.{Expression, literal, variable, element, function, null, negation, logical_not, binary}
+use Rattle.c_lang.specs.Trees.{Expression, literal, variable, element, negation, logical_not, binary}
 use Rattle.c_lang.specs.declared.expr.Op.TheVariants as op
 use Rattle.terms.specs.declared.sequent.What.TheVariants as what
-use Rattle.terms.specs.Trees.{TermTree, number, name, plus, minus, times, divided, remainder, read, truth, array, FormTree, at_most, equal, denied, both, either}
+use Rattle.terms.specs.Trees.{TermTree, number, name, plus, minus, divided, remainder, read, truth, array, FormTree, at_most, equal, denied, both, either}
 use Rattle.expression_conditions.specs.Numbers.{Numbers}
 use Rattle.expression_conditions.specs.Meanings.{val, form, current}
-use Rattle.expression_conditions.specs.Owed.{own, Owed}
+use Rattle.expression_conditions.specs.Owed.{own}
 
 abbrev n : Numbers
 n = record { function = λ f. pos 3; length = λ a. pos 8 }

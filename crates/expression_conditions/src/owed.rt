@@ -3,7 +3,8 @@
 
 ghost use Rattle.std.specs.Prelude.{◌≡◌, ◌++◌, ◌∷◌, [], IfOk, OnOk, map, flat_map};
 ghost use Rattle.c_lang.specs.Trees.{expression_of};
-ghost use Rattle.terms.specs.Trees.{number, at_most, denied, both, equal};
+ghost use Rattle.terms.specs.Trees.{number, at_most, divided};
+ghost use Rattle.expression_conditions.specs.Meanings as meaning;
 ghost use Rattle.expression_conditions.specs.Numbers.{Numbers, numbers_in};
 ghost use Rattle.expression_conditions.specs.Owed as spec;
 ghost use Rattle.expression_conditions.specs.Code.Due as dues;
@@ -16,6 +17,10 @@ use name_tables::ProgramNames;
 use sqlite_items::Items;
 use std::alloc::{AllocError, Global};
 use terms::{Form, Term, What};
+
+const LEAST_INT: i128 = -2_147_483_648;
+
+const GREATEST_INT: i128 = 2_147_483_647;
 
 /// What is known where an operand is evaluated: that the left operand of an `&&` holds, or that the one of an
 /// `||` doesn't.
@@ -49,6 +54,115 @@ impl Drop for Owed<'_> {
             given: _given,
             goal: _goal,
         } = self;
+    }
+}
+
+impl Given<'_> {
+    /// What is given, as a form. The only error is want of memory.
+    pub fn form(&self, alloc: Global, names: &ProgramNames<'_>) -> Result<Form, AllocError>
+        ensures { IfOk result (λ made. made ≡ dues.given_form (numbers_in names.now) (seen_given self.now)) }
+    {
+        match self {
+            Given::Holds(expr) => form(alloc, names, expr),
+            Given::Fails(expr) => {
+                let held = form(alloc, names, expr)?;
+                Form::denied(held)
+            }
+        }
+    }
+}
+
+// That a term is worth an `int`.
+fn fits(alloc: Global, term: Term) -> Result<Form, AllocError>
+    ensures { IfOk result (λ made. made ≡ (spec.fits term).goal) }
+{
+    let low = at_least(alloc, LEAST_INT, term.copy(alloc)?)?;
+    Form::both(low, up_to(alloc, term, GREATEST_INT)?)
+}
+
+fn at_least(alloc: Global, bound: i128, term: Term) -> Result<Form, AllocError>
+    ensures { IfOk result (λ made. made ≡ at_most (number bound) term) }
+{
+    let bound = Term::number(alloc, bound)?;
+    Form::at_most(bound, term)
+}
+
+fn up_to(alloc: Global, term: Term, bound: i128) -> Result<Form, AllocError>
+    ensures { IfOk result (λ made. made ≡ at_most term (number bound)) }
+{
+    let bound = Term::number(alloc, bound)?;
+    Form::at_most(term, bound)
+}
+
+fn is_divisor(alloc: Global, term: Term) -> Result<Form, AllocError>
+    ensures { IfOk result (λ made. made ≡ (spec.is_divisor term).goal) }
+{
+    let zero = Term::number(alloc, 0)?;
+    let null = Form::equal(term, zero)?;
+    Form::denied(null)
+}
+
+fn is_index(
+    alloc: Global,
+    names: &ProgramNames<'_>,
+    array: &Name,
+    index: Term,
+) -> Result<Form, AllocError>
+    ensures { IfOk result (λ made. made ≡ (spec.is_index (numbers_in names.now) array.now index).goal) }
+{
+    let low = at_least(alloc, 0, index.copy(alloc)?)?;
+    let last = names.length(array) as i128 - 1;
+    Form::both(low, up_to(alloc, index, last)?)
+}
+
+fn quotient(
+    alloc: Global,
+    names: &ProgramNames<'_>,
+    left: &Expr,
+    right: &Expr,
+) -> Result<Term, AllocError>
+    ensures { IfOk result (λ made. made ≡ divided (meaning.val (numbers_in names.now) (expression_of left.now)) (meaning.val (numbers_in names.now) (expression_of right.now))) }
+{
+    let dividend = val(alloc, names, left)?;
+    let divisor = val(alloc, names, right)?;
+    Term::div(dividend, divisor)
+}
+
+impl Goal<'_> {
+    /// What has to hold, as a form. The only error is want of memory.
+    pub fn form(&self, alloc: Global, names: &ProgramNames<'_>) -> Result<Form, AllocError>
+        ensures { IfOk result (λ made. made ≡ (dues.goal_owed (numbers_in names.now) (seen_goal self.now)).goal) }
+    {
+        match self {
+            Goal::InRange(expr) => {
+                let term = val(alloc, names, expr)?;
+                fits(alloc, term)
+            }
+            Goal::QuotientInRange(left, right) => {
+                let term = quotient(alloc, names, left, right)?;
+                fits(alloc, term)
+            }
+            Goal::NotZero(expr) => {
+                let term = val(alloc, names, expr)?;
+                is_divisor(alloc, term)
+            }
+            Goal::Within(array, index) => {
+                let term = val(alloc, names, index)?;
+                is_index(alloc, names, array, term)
+            }
+        }
+    }
+
+    /// What a fault would be where it doesn't hold. It takes no memory.
+    pub fn what(&self) -> What
+        ensures { result ≡ dues.goal_what (seen_goal self.now) }
+    {
+        match self {
+            Goal::InRange(_) => What::Overflow,
+            Goal::QuotientInRange(_, _) => What::Overflow,
+            Goal::NotZero(_) => What::Divide,
+            Goal::Within(_, _) => What::Index,
+        }
     }
 }
 

@@ -4,6 +4,8 @@ use Rattle.c_lang.specs.Names.{Bytes}
 use Rattle.c_lang.specs.Trees.{Expression, literal, variable, element, function, null, negation, logical_not, binary}
 use Rattle.c_lang.specs.declared.expr.Op.{Op}
 use Rattle.c_lang.specs.declared.expr.Op.TheVariants as op
+use Rattle.terms.specs.declared.sequent.What.{What}
+use Rattle.terms.specs.declared.sequent.What.TheVariants as what
 use Rattle.terms.specs.Trees.{FormTree, divided, denied}
 use Rattle.expression_conditions.specs.Numbers.{Numbers}
 use Rattle.expression_conditions.specs.Meanings.{val, form}
@@ -35,6 +37,12 @@ goal_owed n (in_range e) = fits (val n e)
 goal_owed n (quotient_in_range a b) = fits (divided (val n a) (val n b))
 goal_owed n (not_zero e) = is_divisor (val n e)
 goal_owed n (within a i) = is_index n a (val n i)
+
+abbrev pub goal_what : Goal → What
+goal_what (in_range e) = what.Overflow
+goal_what (quotient_in_range a b) = what.Overflow
+goal_what (not_zero e) = what.Divide
+goal_what (within a i) = what.Index
 
 abbrev pub due_owed : Numbers → Due → Owed
 due_owed n d = record (goal_owed n d.goal) { given = map (given_form n) d.given }

@@ -1,10 +1,10 @@
-use Rattle.std.proofs.Common.{◌≡◌, [], map, flat_map, ap, ◌∙◌}
+use Rattle.std.proofs.Common.{◌≡◌, map, ap, ◌∙◌}
 use Rattle.std.proofs.lemmas.Result.{IfOk-weaker}
 use Rattle.c_lang.specs.Trees.{expression_of}
 use Rattle.expression_conditions.specs.Numbers.{Numbers}
 use Rattle.expression_conditions.specs.Owed as spec
-use Rattle.expression_conditions.specs.Code.Due.{due, due_owed}
-use Rattle.expression_conditions.specs.Code.Seen.{seen_owed, formulas}
+use Rattle.expression_conditions.specs.Code.Due.{due_owed}
+use Rattle.expression_conditions.specs.Code.Seen.{formulas}
 use Rattle.expression_conditions.proofs.DueLaws.{due-all}
 use Rattle.expression_conditions.proofs.owed.own_all.Goals as goal
 
