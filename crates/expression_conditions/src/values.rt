@@ -1,13 +1,13 @@
 //! The functions whose names are values in a program.
 
-ghost use Rattle.std.specs.Prelude.{◌≡◌, ◌||◌, OnOk};
+ghost use Rattle.std.specs.Prelude.{◌≡◌, ◌||◌, OnOk, map};
 ghost use Rattle.std.specs.Str.{bytes_eq};
 ghost use Rattle.c_lang.specs.Names.{Bytes};
-ghost use Rattle.c_lang.specs.Trees.{expression_of};
+ghost use Rattle.c_lang.specs.Trees.{expression_of, statement_of, statements};
 ghost use Rattle.expression_conditions.specs.Candidates as spec;
 ghost use Rattle.expression_conditions.specs.Code.Sets.{has};
 
-use c_lang::{Expr, Name};
+use c_lang::{Expr, Name, Stmt};
 use name_tables::NameTable;
 use std::alloc::AllocError;
 
@@ -38,4 +38,78 @@ pub(crate) fn add_values<'p>(
             add_values(set, right.get())
         }
     }
+}
+
+fn add_values_of_all<'p>(
+    set: &mut NameTable<'p, bool>,
+    exprs: &'p [Expr],
+) -> Result<(), AllocError>
+    ensures { OnOk result ((x : Bytes) → has set.new x ≡ (spec.some_names x (map expression_of exprs.entry.now) || has set.old x)) }
+{
+    for expr in exprs {
+        add_values(set, expr)?;
+    }
+    Ok(())
+}
+
+fn add_values_of_two<'p>(
+    set: &mut NameTable<'p, bool>,
+    first: &'p Expr,
+    second: &'p Expr,
+) -> Result<(), AllocError>
+    ensures { OnOk result ((x : Bytes) → has set.new x ≡
+        ((spec.names x (expression_of first.entry.now) || spec.names x (expression_of second.entry.now)) || has set.old x)) }
+{
+    add_values(set, first)?;
+    add_values(set, second)
+}
+
+#[cycle(add_in_statement)]
+fn add_in_statement<'p>(
+    set: &mut NameTable<'p, bool>,
+    stmt: &'p Stmt,
+) -> Result<(), AllocError>
+    ensures { OnOk result ((x : Bytes) → has set.new x ≡ (spec.statement_names x (statement_of stmt.entry.now) || has set.old x)) }
+{
+    match stmt {
+        Stmt::Skip { .. } => Ok(()),
+        Stmt::Set { value, .. } => add_values(set, value),
+        Stmt::SetElem { index, value, .. } => add_values_of_two(set, index, value),
+        Stmt::Call { args, .. } => add_values_of_all(set, args.as_slice()),
+        Stmt::CallBy { args, .. } => add_values_of_all(set, args.as_slice()),
+        Stmt::If { cond, yes, no, .. } => {
+            add_values(set, cond)?;
+            add_in_body(set, yes.as_slice())?;
+            add_in_body(set, no.as_slice())
+        }
+        Stmt::While { cond, body, .. } => {
+            add_values(set, cond)?;
+            add_in_body(set, body.as_slice())
+        }
+        Stmt::Break { .. } => Ok(()),
+        Stmt::Return { value: None, .. } => Ok(()),
+        Stmt::Return {
+            value: Some(value), ..
+        } => add_values(set, value),
+        Stmt::Assert { cond, .. } => add_values(set, cond),
+        Stmt::Input { .. } => Ok(()),
+        Stmt::Output { value, .. } => add_values(set, value),
+        Stmt::Point { .. } => Ok(()),
+        Stmt::Choice { .. } => Ok(()),
+        Stmt::Force { .. } => Ok(()),
+        Stmt::Pick { after, before, .. } => {
+            add_in_statement(set, after.get())?;
+            add_in_statement(set, before.get())
+        }
+    }
+}
+
+#[cycle(add_in_statement)]
+fn add_in_body<'p>(set: &mut NameTable<'p, bool>, stmts: &'p [Stmt]) -> Result<(), AllocError>
+    ensures { OnOk result ((x : Bytes) → has set.new x ≡ (spec.body_names x (statements (map statement_of stmts.entry.now)) || has set.old x)) }
+{
+    for stmt in stmts {
+        add_in_statement(set, stmt)?;
+    }
+    Ok(())
 }
