@@ -4,6 +4,8 @@
 
 mod meaning;
 mod owed;
+mod values;
 
 pub use meaning::{Meaning, form, val};
 pub use owed::{Given, Goal, Owed, own, own_all, own_element};
+pub use values::value_functions;
