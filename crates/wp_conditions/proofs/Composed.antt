@@ -7,7 +7,7 @@ use Rattle.terms.specs.declared.fact.Fact.TheVariants as fact
 use Rattle.terms.specs.Symbols.{same_sym}
 use Rattle.terms.specs.Code.SymbolLaws.{same_sym-equal}
 use Rattle.terms.specs.Trees.{TermTree, number, name, plus, minus, times, divided, remainder, read, truth, ArrayTree, array, stored, FormTree, always, never, at_most, equal, denied, both, either}
-use Rattle.terms.specs.Replacing.{Change, below, change_in, replaced_term, replaced_array, replaced_form, replaced_fact}
+use Rattle.terms.specs.Replacing.{Change, below, replaced_term, replaced_array, replaced_form, replaced_fact}
 use Rattle.wp_conditions.specs.EntryNames.{bound}
 use Rattle.wp_conditions.specs.Changing.{change, composed}
 use Rattle.wp_conditions.specs.Binding.{BindsBound, KeepsBound}

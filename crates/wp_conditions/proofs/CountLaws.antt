@@ -1,18 +1,17 @@
 -- The count is the length of the list.
-use Rattle.std.proofs.Common.{◌≡◌, ℕ, suc, ◌+◌, List, [], ◌∷◌, ◌++◌, map, flat_map, length, Option, Some, None, refl, sym, ap, ap₂, ◌∙◌, arith}
+use Rattle.std.proofs.Common.{◌≡◌, ℕ, suc, ◌+◌, List, [], ◌∷◌, ◌++◌, map, flat_map, length, Some, None, refl, ap, ap₂, ◌∙◌}
 use Rattle.std.proofs.lemmas.List.{length-append}
 use Rattle.c_lang.specs.Names.{Bytes}
-use Rattle.c_lang.specs.Trees.{Expression}
 use Rattle.terms.specs.declared.sym.Sym.{Sym}
 use Rattle.terms.specs.declared.fact.Fact.{Fact}
-use Rattle.terms.specs.Trees.{TermTree, FormTree, denied}
-use Rattle.expression_conditions.specs.Meanings.{val, form}
+use Rattle.terms.specs.Trees.{TermTree}
+use Rattle.expression_conditions.specs.Meanings.{val}
 use Rattle.expression_conditions.specs.Owed.{own, own_all, own_element}
 use Rattle.wp_conditions.specs.Context.{Context}
 use Rattle.wp_conditions.specs.Annotated.{Annotated, aside, set, set_element, call, call_by, if_else, while_loop, break_loop, return_with, assert_that, input, output, choice, Body, none, more}
 use Rattle.terms.specs.Replacing.{replaced_fact}
 use Rattle.wp_conditions.specs.Changing.{change, renewing, returning}
-use Rattle.wp_conditions.specs.Wp.{Condition, changed, under, implies, all_imply, owed_at, goals, asked, returned, is_function, cells_of, promised, wp, wp_all}
+use Rattle.wp_conditions.specs.Wp.{Condition, changed, under, all_imply, owed_at, asked, returned, cells_of, wp, wp_all}
 use Rattle.wp_conditions.specs.Counted.{counted, counted_all, asked_count, once_each}
 
 mapped : {A B : Type 0} (f : A → B) (l : List A) → length (map f l) ≡ length l

@@ -1,18 +1,17 @@
 -- Worked examples, computed.
-use Rattle.std.proofs.Common.{◌≡◌, ℕ, pos, negsuc, true, false, List, [], ◌∷◌, ◌++◌, map, length, codes, Option, Some, None, refl}
+use Rattle.std.proofs.Common.{◌≡◌, ℕ, pos, negsuc, true, List, [], ◌∷◌, map, length, codes, Some, refl}
 use Rattle.std.specs.Fmt.{digits}
 use Rattle.c_lang.specs.Names.{Bytes}
-use Rattle.c_lang.specs.Trees.{Expression, literal, variable, binary, Statement, Statements, set, call, call_by, if_else, while_loop, return_with, assert_that, input, output, none, more, function}
+use Rattle.c_lang.specs.Trees.{Expression, literal, variable, binary, Statements, set, call, call_by, if_else, while_loop, return_with, assert_that, input, output, none, more}
 use Rattle.c_lang.specs.declared.expr.Op.TheVariants as op
 use Rattle.c_lang.specs.declared.unit.Pos.{Pos}
 use Rattle.c_lang.specs.declared.unit.Unit.TheVariants as unit
 use Rattle.c_lang.specs.declared.stmt.Kind.TheVariants as kind
 use Rattle.c_lang.specs.declared.stmt.Dest.TheVariants as dest
-use Rattle.terms.specs.declared.sym.Sym.{Sym}
 use Rattle.terms.specs.declared.fact.Fact.{Fact}
 use Rattle.terms.specs.declared.fact.Fact.TheVariants as fact
 use Rattle.terms.specs.declared.sequent.What.TheVariants as what
-use Rattle.terms.specs.Trees.{TermTree, number, name, plus, times, read, array, FormTree, at_most, equal, denied, both}
+use Rattle.terms.specs.Trees.{TermTree, number, name, plus, read, array, at_most, equal, denied, both}
 use Rattle.expression_conditions.specs.Meanings.{current}
 use Rattle.wp_conditions.specs.EntryNames.{bound, global_at_entry, result_base, parameter_at_entry}
 use Rattle.wp_conditions.specs.Context.{Context}
@@ -78,22 +77,25 @@ eight = refl
 
 -- behind a call that may change g, `g` is another value than before; an argument and what g was are in the promises
 behind_a_call : conditions_of (declares 1 (variable g) (more (call (at 2) dest.Nowhere f (literal (pos 4) ∷ []))
-      (more (assert_that (at 3) (binary op.Eq (variable g) (variable x))) none)))
+    (more (assert_that (at 3) (binary op.Eq (variable g) (variable x))) none)))
     ≡ record { hyps = []; goal = fact.Plain (at_most (number (pos 4)) (number (pos 5))); label = record { pos = at 2; what = what.Requires } }
     ∷ (goal 3 (fact.Plain (equal (name (record { base = result_base; count = 1 })) (name (current g)))
     ∷ (fact.Plain (equal (name (record { base = result_base; count = 1 })) (number (pos 4))) ∷ []))
-      (fact.Plain (equal (name (record { base = g; count = 1 })) (name (current g)))) ∷ [])
+    (fact.Plain (equal (name (record { base = g; count = 1 })) (name (current g)))) ∷ [])
 unfolding digits
 behind_a_call = refl
 
 -- a loop asks its invariants where it begins and where its body goes round, and has fresh names inside and behind it
 around_a_loop : conditions_of (declares 1 (literal (pos 0)) (more (while_loop (at 2) (binary op.Le (variable x) (literal (pos 9)))
-      (more (set (at 3) (dest.Into x) (literal (pos 4))) none)) (more (assert_that (at 5) (literal (pos 1))) none)))
+    (more (set (at 3) (dest.Into x) (literal (pos 4))) none)) (more (assert_that (at 5) (literal (pos 1))) none)))
     ≡ record { hyps = []; goal = fact.Plain (at_most (number (pos 0)) (number (pos 0))); label = record { pos = at 2; what = what.InvariantEntry } }
-    ∷ (record { hyps = fact.Plain (at_most (number (pos 0)) (name (record { base = x; count = 1 }))) ∷ (fact.Plain (at_most (name (record { base = x; count = 1 })) (number (pos 9))) ∷ []);
-      goal = fact.Plain (at_most (number (pos 0)) (number (pos 4))); label = record { pos = at 2; what = what.InvariantKept } }
+    ∷ (record {
+      hyps = fact.Plain (at_most (number (pos 0)) (name (record { base = x; count = 1 }))) ∷ (fact.Plain (at_most (name (record { base = x; count = 1 })) (number (pos 9))) ∷ []);
+      goal = fact.Plain (at_most (number (pos 0)) (number (pos 4)));
+      label = record { pos = at 2; what = what.InvariantKept };
+    }
     ∷ (goal 5 (fact.Plain (at_most (number (pos 0)) (name (record { base = x; count = 1 }))) ∷ (fact.Plain (denied (at_most (name (record { base = x; count = 1 })) (number (pos 9)))) ∷ []))
-      (fact.Plain (denied (equal (number (pos 1)) (number (pos 0))))) ∷ []))
+    (fact.Plain (denied (equal (number (pos 1)) (number (pos 0))))) ∷ []))
 around_a_loop = refl
 
 -- a call through a pointer: null, what each function asks, and what follows it once for each

@@ -1,5 +1,5 @@
 -- How many conditions there are, without making them. A body is gone through once, whatever the number of paths.
-use Rattle.std.specs.Prelude.{ℕ, suc, ◌+◌, List, [], ◌∷◌, length, Option, Some, None}
+use Rattle.std.specs.Prelude.{ℕ, suc, ◌+◌, List, [], ◌∷◌, length, Some, None}
 use Rattle.c_lang.specs.Names.{Bytes}
 use Rattle.expression_conditions.specs.Owed.{own, own_all, own_element}
 use Rattle.wp_conditions.specs.Context.{Context}
