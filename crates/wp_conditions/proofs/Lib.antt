@@ -1,1 +1,4 @@
 pub mod Walked
+pub mod Composed
+pub mod CountLaws
+mod Examples

@@ -1,5 +1,5 @@
 -- The walk from the front makes the list.
-use Rattle.std.proofs.Common.{◌≡◌, pos, List, [], ◌∷◌, ◌++◌, map, length, flat_map, Option, Some, None, refl, sym, ap, ap₂, ◌∙◌}
+use Rattle.std.proofs.Common.{◌≡◌, pos, List, [], ◌∷◌, ◌++◌, map, length, flat_map, Some, None, refl, sym, ap, ap₂, ◌∙◌}
 use Rattle.c_lang.specs.Names.{Bytes}
 use Rattle.terms.specs.declared.sym.Sym.{Sym}
 use Rattle.terms.specs.declared.fact.Fact.{Fact}
@@ -13,7 +13,7 @@ use Rattle.wp_conditions.specs.Changing.{change, setting_at, storing, renewing, 
 use Rattle.wp_conditions.specs.Context.{Context}
 use Rattle.wp_conditions.specs.Annotated.{Annotated, aside, set, set_element, call, call_by, if_else, while_loop, break_loop, return_with, assert_that, input, output, choice, Body, none, more}
 use Rattle.wp_conditions.specs.Wp.{Condition, changed, under, implies, all_imply, goal_of, goals, owed_at, promised, asked, returned, is_function, cells_of, wp, wp_all}
-use Rattle.wp_conditions.specs.Code.Walk.{Round, Maker, Makes, given, under_all, behind, behind_call, in_loop, for_each, walk, walk_all}
+use Rattle.wp_conditions.specs.Code.Walk.{Round, Maker, Makes, given, under_all, behind_call, in_loop, for_each, walk, walk_all}
 
 over_append : (k : Round) (a b : List Condition) → map k (a ++ b) ≡ map k a ++ map k b
 over_append k [] b = refl
@@ -109,7 +109,7 @@ mutual
       (each k (λ f. map (given (is f) k) (asked c p f args)) ask (λ f. sym (over_map k (under (fact.Plain (is f))) (asked c p f args))) fs)
       (each k (λ f. next (behind_call c f args result (cells_of c f cells) (given (is f) k))) after
       (λ f. behind_call_makes c f args result (cells_of c f cells) next N n (given (is f) k)
-          ∙ sym (over_map k (under (fact.Plain (is f))) (returned c f args result (cells_of c f cells) N))) fs)))
+      ∙ sym (over_map k (under (fact.Plain (is f))) (returned c f args result (cells_of c f cells) N))) fs)))
 
   pub walked_all : (c : Context) (func : Bytes) (t : Body) (next brk : Maker) (N B : List Condition) → Makes next N → Makes brk B →
       Makes (walk_all c func t next brk) (wp_all c func t N B)

@@ -1,11 +1,11 @@
 -- What stands in for names while a body is gone through. The bound number of a fact stays.
-use Rattle.std.specs.Prelude.{ℕ, suc, ℤ, pos, List, [], ◌∷◌, ◌++◌, map}
+use Rattle.std.specs.Prelude.{ℕ, suc, List, [], ◌∷◌, ◌++◌, map}
 use Rattle.c_lang.specs.Names.{Bytes}
 use Rattle.c_lang.specs.declared.stmt.Dest.{Dest}
 use Rattle.c_lang.specs.declared.stmt.Dest.TheVariants as dest
 use Rattle.terms.specs.declared.sym.Sym.{Sym}
 use Rattle.terms.specs.declared.changes.Changes.{Changes}
-use Rattle.terms.specs.Trees.{TermTree, number, name, ArrayTree, array, stored}
+use Rattle.terms.specs.Trees.{TermTree, name, array, stored}
 use Rattle.terms.specs.Replacing.{Change, change_in, below, replaced_term, replaced_array}
 use Rattle.expression_conditions.specs.Meanings.{current}
 use Rattle.wp_conditions.specs.EntryNames.{parameter_at_entry, global_at_entry, result_base, bound}

@@ -1,5 +1,5 @@
 -- The conditions of a program with its hints: those of its functions in their order, and then the initial ones.
-use Rattle.std.specs.Prelude.{ℕ, suc, ℤ, pos, ◌+◌, Bool, true, false, ◌&&◌, ◌||◌, nat_lt, if◌then◌else◌, ⊤, ◌≡◌, List, [], ◌∷◌, ◌++◌, map, flat_map, filter, length, codes, Option, Some, None, Result, Ok, Err}
+use Rattle.std.specs.Prelude.{ℕ, suc, ℤ, pos, ◌+◌, Bool, true, false, ◌&&◌, ◌||◌, nat_lt, if◌then◌else◌, ⊤, ◌≡◌, List, [], ◌∷◌, ◌++◌, map, flat_map, length, codes, Option, Some, None, Result, Ok, Err}
 use Rattle.std.specs.Ordering.{int_eq}
 use Rattle.std.specs.List.{list_any}
 use Rattle.std.specs.Str.{bytes_eq}
@@ -7,14 +7,12 @@ use Rattle.c_lang.specs.Names.{Bytes}
 use Rattle.c_lang.specs.Programs.{func_named}
 use Rattle.c_lang.specs.Trees.{statements, statement_of}
 use Rattle.c_lang.specs.declared.unit.Pos.{Pos}
-use Rattle.c_lang.specs.declared.refusal.Refusal.{Refusal}
 use Rattle.c_lang.specs.declared.refusal.Fail.{Fail}
 use Rattle.c_lang.specs.declared.refusal.Fail.TheVariants.{NoMemory, Refused}
 use Rattle.c_lang.specs.Refusals.{refused_at, too_many_conditions}
 use Rattle.std.specs.Option.{option_map}
 use Rattle.c_lang.specs.declared.program.Shape.{Shape}
 use Rattle.c_lang.specs.declared.program.Shape.TheVariants as shape
-use Rattle.c_lang.specs.declared.program.GlobalVar.{GlobalVar}
 use Rattle.c_lang.specs.declared.program.Func.{Func}
 use Rattle.c_lang.specs.declared.program.Program.{Program}
 use Rattle.terms.specs.declared.sym.Sym.{Sym}
@@ -24,7 +22,7 @@ use Rattle.terms.specs.declared.changes.Changes.{Changes}
 use Rattle.terms.specs.declared.sequent.What.TheVariants as what
 use Rattle.terms.specs.declared.sequent.Sequent.{Sequent}
 use Rattle.terms.specs.Symbols.{same_sym}
-use Rattle.terms.specs.Trees.{TermTree, number, name, read, array, equal}
+use Rattle.terms.specs.Trees.{number, name, read, array, equal}
 use Rattle.terms.specs.Names.{Occurrence, as_number, as_array, fact_names}
 use Rattle.terms.specs.Replacing.{replaced_fact}
 use Rattle.terms.specs.Sizes.{sequent_size}
@@ -93,7 +91,8 @@ known_elements f a (shape.Fp n g) = []
 
 abbrev pub initial_condition : Program → Pos → Fact → Condition
 initial_condition p at f = record (goal_of at what.Initial (replaced_fact (change (initial_numbers p)) f)) {
-  hyps = flat_map (λ g. known_elements f g.name g.shape) p.globals }
+  hyps = flat_map (λ g. known_elements f g.name g.shape) p.globals;
+}
 
 abbrev pub initial_conditions : Program → Context → Func → List Condition
 initial_conditions p c main = map (initial_condition p main.pos) (c.needs main_name)

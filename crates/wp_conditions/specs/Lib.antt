@@ -6,4 +6,6 @@ pub mod Annotating
 pub mod Wp
 pub mod Sorts
 pub mod Conditions
+pub mod Counted
+pub mod Binding
 pub mod Code

@@ -14,7 +14,6 @@ use Rattle.c_lang.specs.declared.program.Shape.TheVariants as shape
 use Rattle.c_lang.specs.declared.program.GlobalVar.{GlobalVar}
 use Rattle.c_lang.specs.declared.program.Func.{Func}
 use Rattle.c_lang.specs.declared.program.Program.{Program}
-use Rattle.terms.specs.declared.sym.Sym.{Sym}
 use Rattle.terms.specs.declared.sequent.Sort.{Sort}
 use Rattle.terms.specs.declared.sequent.Sort.TheVariants as sort
 use Rattle.terms.specs.declared.sequent.Sequent.{Sequent}

@@ -1,10 +1,8 @@
 -- The conditions of a statement, in front of those of what follows it: what has to hold before it, so that all of
 -- these hold.
-use Rattle.std.specs.Prelude.{ℤ, pos, List, [], ◌∷◌, ◌++◌, map, flat_map, filter, length, Option, Some, None}
+use Rattle.std.specs.Prelude.{pos, List, [], ◌∷◌, ◌++◌, map, flat_map, filter, length, Some, None}
 use Rattle.c_lang.specs.Names.{Bytes}
-use Rattle.c_lang.specs.Trees.{Expression}
 use Rattle.c_lang.specs.declared.unit.Pos.{Pos}
-use Rattle.c_lang.specs.declared.stmt.Dest.{Dest}
 use Rattle.terms.specs.declared.sym.Sym.{Sym}
 use Rattle.terms.specs.declared.fact.Fact.{Fact}
 use Rattle.terms.specs.declared.fact.Fact.TheVariants as fact

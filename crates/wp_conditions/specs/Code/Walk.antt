@@ -1,6 +1,6 @@
 -- The same list, made from the front: what stands round a condition is carried along, and each condition is finished
 -- when it is made.
-use Rattle.std.specs.Prelude.{◌≡◌, pos, List, [], ◌∷◌, ◌++◌, map, length, Option, Some, None}
+use Rattle.std.specs.Prelude.{◌≡◌, pos, List, [], ◌∷◌, ◌++◌, map, length, Some, None}
 use Rattle.c_lang.specs.Names.{Bytes}
 use Rattle.terms.specs.declared.sym.Sym.{Sym}
 use Rattle.terms.specs.declared.fact.Fact.{Fact}
