@@ -4,13 +4,13 @@ ghost use Rattle.c_lang.specs.Names.{Bytes};
 ghost use Rattle.terms.specs.declared.changes.Changes.{Changes};
 ghost use Rattle.terms.specs.declared.fact.Fact.{Fact};
 ghost use Rattle.terms.specs.Replacing.{Change, replaced_fact};
-ghost use Rattle.wp_conditions.specs.Annotated.{Body};
-ghost use Rattle.wp_conditions.specs.Binding.{BindsBound, KeepsBound};
-ghost use Rattle.wp_conditions.specs.Changing.{change, composed};
-ghost use Rattle.wp_conditions.specs.Context.{Context};
-ghost use Rattle.wp_conditions.specs.Counted.{counted_all};
-ghost use Rattle.wp_conditions.specs.Wp.{Condition, wp_all};
-ghost use Rattle.wp_conditions.specs.Code.Walk.{Maker, Makes, walk_all};
+ghost use Rattle.weakest_preconditions.specs.Annotated.{Body};
+ghost use Rattle.weakest_preconditions.specs.Binding.{BindsBound, KeepsBound};
+ghost use Rattle.weakest_preconditions.specs.Changing.{change, composed};
+ghost use Rattle.weakest_preconditions.specs.Context.{Context};
+ghost use Rattle.weakest_preconditions.specs.Counted.{counted_all};
+ghost use Rattle.weakest_preconditions.specs.Wp.{Condition, wp_all};
+ghost use Rattle.weakest_preconditions.specs.Code.Walk.{Maker, Makes, walk_all};
 
 /// The list that is made from the front, where each condition is finished when it is made, is the list that is
 /// defined from the end.

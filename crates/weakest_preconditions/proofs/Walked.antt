@@ -9,11 +9,11 @@ use Rattle.terms.specs.Trees.{TermTree, number, name, FormTree, equal, denied}
 use Rattle.terms.specs.Replacing.{Change, replaced_fact}
 use Rattle.expression_conditions.specs.Meanings.{val, form, current}
 use Rattle.expression_conditions.specs.Owed.{own, own_all, own_element}
-use Rattle.wp_conditions.specs.Changing.{change, setting_at, storing, renewing, returning}
-use Rattle.wp_conditions.specs.Context.{Context}
-use Rattle.wp_conditions.specs.Annotated.{Annotated, aside, set, set_element, call, call_by, if_else, while_loop, break_loop, return_with, assert_that, input, output, choice, Body, none, more}
-use Rattle.wp_conditions.specs.Wp.{Condition, changed, under, implies, all_imply, goal_of, goals, owed_at, promised, asked, returned, is_function, cells_of, wp, wp_all}
-use Rattle.wp_conditions.specs.Code.Walk.{Round, Maker, Makes, given, under_all, behind_call, in_loop, for_each, walk, walk_all}
+use Rattle.weakest_preconditions.specs.Changing.{change, setting_at, storing, renewing, returning}
+use Rattle.weakest_preconditions.specs.Context.{Context}
+use Rattle.weakest_preconditions.specs.Annotated.{Annotated, aside, set, set_element, call, call_by, if_else, while_loop, break_loop, return_with, assert_that, input, output, choice, Body, none, more}
+use Rattle.weakest_preconditions.specs.Wp.{Condition, changed, under, implies, all_imply, goal_of, goals, owed_at, promised, asked, returned, is_function, cells_of, wp, wp_all}
+use Rattle.weakest_preconditions.specs.Code.Walk.{Round, Maker, Makes, given, under_all, behind_call, in_loop, for_each, walk, walk_all}
 
 over_append : (k : Round) (a b : List Condition) → map k (a ++ b) ≡ map k a ++ map k b
 over_append k [] b = refl

@@ -18,7 +18,7 @@ use Rattle.terms.specs.declared.sequent.Sort.{Sort}
 use Rattle.terms.specs.declared.sequent.Sort.TheVariants as sort
 use Rattle.terms.specs.declared.sequent.Sequent.{Sequent}
 use Rattle.terms.specs.Names.{distinct, sequent_names}
-use Rattle.wp_conditions.specs.Wp.{Condition}
+use Rattle.weakest_preconditions.specs.Wp.{Condition}
 
 -- the first kind, else the second
 abbrev pub or_else : Option Kind → Option Kind → Option Kind

@@ -29,13 +29,13 @@ use Rattle.terms.specs.Sizes.{sequent_size}
 use Rattle.loop_invariants.specs.declared.hints.Hints.{Hints}
 use Rattle.expression_conditions.specs.Meanings.{current}
 use Rattle.name_tables.specs.Declarations.{function_number}
-use Rattle.wp_conditions.specs.EntryNames.{bound}
-use Rattle.wp_conditions.specs.Changing.{change, entering}
-use Rattle.wp_conditions.specs.Context.{Context, context_of}
-use Rattle.wp_conditions.specs.Annotating.{start, annotated_all}
-use Rattle.wp_conditions.specs.Annotated.{Body}
-use Rattle.wp_conditions.specs.Wp.{Condition, changed, all_imply, goal_of, goals, promised, wp_all}
-use Rattle.wp_conditions.specs.Sorts.{sequent}
+use Rattle.weakest_preconditions.specs.EntryNames.{bound}
+use Rattle.weakest_preconditions.specs.Changing.{change, entering}
+use Rattle.weakest_preconditions.specs.Context.{Context, context_of}
+use Rattle.weakest_preconditions.specs.Annotating.{start, annotated_all}
+use Rattle.weakest_preconditions.specs.Annotated.{Body}
+use Rattle.weakest_preconditions.specs.Wp.{Condition, changed, all_imply, goal_of, goals, promised, wp_all}
+use Rattle.weakest_preconditions.specs.Sorts.{sequent}
 
 abbrev pub main_name : Bytes
 main_name = codes "main"

@@ -7,12 +7,12 @@ use Rattle.terms.specs.declared.fact.Fact.{Fact}
 use Rattle.terms.specs.Trees.{TermTree}
 use Rattle.expression_conditions.specs.Meanings.{val}
 use Rattle.expression_conditions.specs.Owed.{own, own_all, own_element}
-use Rattle.wp_conditions.specs.Context.{Context}
-use Rattle.wp_conditions.specs.Annotated.{Annotated, aside, set, set_element, call, call_by, if_else, while_loop, break_loop, return_with, assert_that, input, output, choice, Body, none, more}
+use Rattle.weakest_preconditions.specs.Context.{Context}
+use Rattle.weakest_preconditions.specs.Annotated.{Annotated, aside, set, set_element, call, call_by, if_else, while_loop, break_loop, return_with, assert_that, input, output, choice, Body, none, more}
 use Rattle.terms.specs.Replacing.{replaced_fact}
-use Rattle.wp_conditions.specs.Changing.{change, renewing, returning}
-use Rattle.wp_conditions.specs.Wp.{Condition, changed, under, all_imply, owed_at, asked, returned, cells_of, wp, wp_all}
-use Rattle.wp_conditions.specs.Counted.{counted, counted_all, asked_count, once_each}
+use Rattle.weakest_preconditions.specs.Changing.{change, renewing, returning}
+use Rattle.weakest_preconditions.specs.Wp.{Condition, changed, under, all_imply, owed_at, asked, returned, cells_of, wp, wp_all}
+use Rattle.weakest_preconditions.specs.Counted.{counted, counted_all, asked_count, once_each}
 
 mapped : {A B : Type 0} (f : A → B) (l : List A) → length (map f l) ≡ length l
 mapped f [] = refl

@@ -8,9 +8,9 @@ use Rattle.c_lang.specs.Trees as tree
 use Rattle.c_lang.specs.declared.stmt.Dest.{Dest}
 use Rattle.c_lang.specs.declared.stmt.Dest.TheVariants as dest
 use Rattle.terms.specs.declared.sym.Sym.{Sym}
-use Rattle.wp_conditions.specs.EntryNames.{result_base}
-use Rattle.wp_conditions.specs.Context.{Context}
-use Rattle.wp_conditions.specs.Annotated.{Annotated, aside, set, set_element, call, call_by, if_else, while_loop, break_loop, return_with, assert_that, input, output, choice, Body, none, more}
+use Rattle.weakest_preconditions.specs.EntryNames.{result_base}
+use Rattle.weakest_preconditions.specs.Context.{Context}
+use Rattle.weakest_preconditions.specs.Annotated.{Annotated, aside, set, set_element, call, call_by, if_else, while_loop, break_loop, return_with, assert_that, input, output, choice, Body, none, more}
 
 -- how many loops begin before a statement, and how many statements before it give a base a fresh name
 pub record Place : Type 0 where

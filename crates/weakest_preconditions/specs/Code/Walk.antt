@@ -10,10 +10,10 @@ use Rattle.terms.specs.Trees.{TermTree, number, name, FormTree, equal, denied}
 use Rattle.terms.specs.Replacing.{Change, replaced_fact}
 use Rattle.expression_conditions.specs.Meanings.{val, form, current}
 use Rattle.expression_conditions.specs.Owed.{own, own_all, own_element}
-use Rattle.wp_conditions.specs.Changing.{change, setting_at, storing, renewing, returning}
-use Rattle.wp_conditions.specs.Context.{Context}
-use Rattle.wp_conditions.specs.Annotated.{Annotated, aside, set, set_element, call, call_by, if_else, while_loop, break_loop, return_with, assert_that, input, output, choice, Body, none, more}
-use Rattle.wp_conditions.specs.Wp.{Condition, changed, under, goal_of, goals, owed_at, promised, asked, is_function, cells_of}
+use Rattle.weakest_preconditions.specs.Changing.{change, setting_at, storing, renewing, returning}
+use Rattle.weakest_preconditions.specs.Context.{Context}
+use Rattle.weakest_preconditions.specs.Annotated.{Annotated, aside, set, set_element, call, call_by, if_else, while_loop, break_loop, return_with, assert_that, input, output, choice, Body, none, more}
+use Rattle.weakest_preconditions.specs.Wp.{Condition, changed, under, goal_of, goals, owed_at, promised, asked, is_function, cells_of}
 
 -- what stands round a condition: hypotheses and changes, the innermost applied first
 abbrev pub Round : Type 0
