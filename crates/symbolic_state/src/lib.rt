@@ -1,0 +1,9 @@
+//! What stands round a condition while a body is gone through from the front: what its names stand for, and what is
+//! given. Each condition is finished in time linear in its size.
+#![tactic(auto)]
+
+mod state;
+mod step;
+
+pub use state::SymbolicState;
+pub use step::Step;
