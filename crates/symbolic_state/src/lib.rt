@@ -2,6 +2,7 @@
 //! given. Each condition is finished in time linear in its size.
 #![tactic(auto)]
 
+mod bindings;
 mod state;
 mod step;
 

@@ -1,0 +1,2 @@
+-- What the code's tables stand for.
+pub mod Bindings
