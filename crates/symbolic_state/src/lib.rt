@@ -3,6 +3,7 @@
 #![tactic(auto)]
 
 mod bindings;
+mod changes;
 mod state;
 mod step;
 

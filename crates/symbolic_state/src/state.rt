@@ -8,11 +8,12 @@ ghost use Rattle.symbolic_state.specs.declared.step.Step.TheVariants as step;
 ghost use Rattle.symbolic_state.specs.Steps.{finished, assumed, outermost, owed, without_sorts, IsMadeWithin};
 
 use crate::Step;
+use crate::changes::{current, entering, one_array, one_number, passing, renewing, stored};
 use c_lang::{Func, Name, Program};
 use name_tables::ProgramNames;
 use std::alloc::{AllocError, Global};
 use std::marker::Model;
-use terms::{Fact, Form, Label, Sequent, Sym, Term};
+use terms::{Changes, Fact, Form, Label, Sequent, Sym, Term};
 
 /// What stands round a condition, which contracts see as steps, the innermost first. Every method that changes it
 /// adds steps, but for `cut_back`. The only error is want of memory, and after it nothing is known of the steps.
@@ -50,18 +51,44 @@ impl SymbolicState {
         }
     }
 
+    // Adds a step in which names are replaced.
+    fn replace(&mut self, changes: Changes) -> Result<(), AllocError>
+        ensures { OnOk result (self.new ≡ step.Replaces changes ∷ self.old) }
+    {
+        self.steps.push(Step::Replaces(changes))?;
+        Ok(())
+    }
+
+    // Adds a step in which a fact is given.
+    fn given(&mut self, fact: Fact) -> Result<(), AllocError>
+        requires { BindsBound fact }
+        ensures { OnOk result (self.new ≡ step.Assumes fact ∷ self.old) }
+    {
+        self.steps.push(Step::Assumes(fact))?;
+        Ok(())
+    }
+
     /// From here on the name's current value is the given one. The only error is want of memory.
     pub fn set(&mut self, alloc: Global, name: &Name, value: &Term) -> Result<(), AllocError>
         ensures { OnOk result (self.new ≡ step.Replaces (setting name.now value.now) ∷ self.old) }
     {
-        Err(AllocError)
+        let name = current(alloc, name)?;
+        self.replace(one_number(alloc, name, value)?)
     }
 
     /// From here on the result of a function has this value. The only error is want of memory.
     pub fn set_result(&mut self, alloc: Global, value: &Term) -> Result<(), AllocError>
         ensures { OnOk result (self.new ≡ step.Replaces (setting result_base value.now) ∷ self.old) }
     {
-        Err(AllocError)
+        let name = Name::new(alloc, b"$r")?;
+        self.replace(one_number(
+            alloc,
+            Sym {
+                base: name,
+                count: 0,
+            },
+            value,
+        )?)
     }
 
     /// From here on the current array has the value at the index. The only error is want of memory.
@@ -74,14 +101,15 @@ impl SymbolicState {
     ) -> Result<(), AllocError>
         ensures { OnOk result (self.new ≡ step.Replaces (storing array.now index.now value.now) ∷ self.old) }
     {
-        Err(AllocError)
+        let stored = stored(alloc, array, index, value)?;
+        self.replace(one_array(alloc, current(alloc, array)?, stored)?)
     }
 
     /// From here on each of these names stands for the current value of its base. The only error is want of memory.
     pub fn renew(&mut self, alloc: Global, fresh: &[Sym]) -> Result<(), AllocError>
         ensures { OnOk result (self.new ≡ step.Replaces (renewing fresh.now) ∷ self.old) }
     {
-        Err(AllocError)
+        self.replace(renewing(alloc, fresh)?)
     }
 
     /// The function's body begins: each global and each parameter at entry is what it is now. The only error is want
@@ -90,14 +118,14 @@ impl SymbolicState {
         ensures { OnOk result (self.new
             ≡ step.Replaces (entering (map (λ g. g.name) program.now.globals) (map (λ p. p.1) func.now.params)) ∷ self.old) }
     {
-        Err(AllocError)
+        self.replace(entering(alloc, program, func)?)
     }
 
     /// From here on the parameters at entry have these values. The only error is want of memory.
     pub fn pass(&mut self, alloc: Global, args: &[Term]) -> Result<(), AllocError>
         ensures { OnOk result (self.new ≡ step.Replaces (passing args.now) ∷ self.old) }
     {
-        Err(AllocError)
+        self.replace(passing(alloc, args)?)
     }
 
     /// The fact is given. The only error is want of memory.
@@ -105,7 +133,7 @@ impl SymbolicState {
         requires { BindsBound fact.now }
         ensures { OnOk result (self.new ≡ step.Assumes fact.now ∷ self.old) }
     {
-        Err(AllocError)
+        self.given(fact.copy(alloc)?)
     }
 
     /// The facts are given, one after the other. The only error is want of memory.
@@ -113,14 +141,17 @@ impl SymbolicState {
         requires { All BindsBound facts.now }
         ensures { OnOk result (self.new ≡ assumed facts.now self.old) }
     {
-        Err(AllocError)
+        for fact in facts {
+            self.assume(alloc, fact)?;
+        }
+        Ok(())
     }
 
     /// The form is given. The only error is want of memory.
     pub fn assume_form(&mut self, form: Form) -> Result<(), AllocError>
         ensures { OnOk result (self.new ≡ step.Assumes (Plain form) ∷ self.old) }
     {
-        Err(AllocError)
+        self.given(Fact::Plain(form))
     }
 
     /// A call has come to its end: what its function promises is given, one fact after the other, where its
