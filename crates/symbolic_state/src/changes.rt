@@ -1,10 +1,12 @@
 ghost use Rattle.std.specs.Prelude.{◌≡◌, suc, List, [], ◌∷◌, ◌++◌, map, IfOk, OnOk};
+ghost use Rattle.c_lang.specs.declared.program.GlobalVar.{GlobalVar};
 ghost use Rattle.terms.specs.Trees.{name, array, stored};
 ghost use Rattle.expression_conditions.specs.Meanings.{current};
 ghost use Rattle.weakest_preconditions.specs.Changing.{entry_values, passing, renewing, entering};
 ghost use Rattle.weakest_preconditions.specs.EntryNames.{parameter_at_entry, global_at_entry};
 
 use c_lang::{Func, GlobalVar, Kind, Name, Program};
+use itoa::Buffer;
 use sqlite_items::Items;
 use std::alloc::{AllocError, Global};
 use terms::{ArrayTerm, Changes, Sym, Term};
@@ -107,15 +109,133 @@ pub(crate) fn renewing(alloc: Global, fresh: &[Sym]) -> Result<Changes, AllocErr
     })
 }
 
+// The value at entry of the parameter with this number.
+fn parameter_at_entry(alloc: Global, number: usize) -> Result<Sym, AllocError>
+    ensures { IfOk result (λ made. made ≡ parameter_at_entry number) }
+{
+    let mut text = Vec::new(alloc);
+    text.push(b'$')?;
+    text.extend_from_slice(Buffer::new().format(number).as_bytes())?;
+    Ok(Sym {
+        base: Name::from_vec(text),
+        count: 0,
+    })
+}
+
+// The value of a global at entry.
+fn global_at_entry(alloc: Global, global: &Name) -> Result<Sym, AllocError>
+    ensures { IfOk result (λ made. made ≡ global_at_entry global.now) }
+{
+    let mut text = Vec::new(alloc);
+    text.extend_from_slice(b"pre(")?;
+    text.extend_from_slice(global.as_bytes())?;
+    text.push(b')')?;
+    Ok(Sym {
+        base: Name::from_vec(text),
+        count: 0,
+    })
+}
+
+// A parameter at entry has this value.
+fn passed(alloc: Global, number: usize, value: &Term) -> Result<(Sym, Term), AllocError>
+    ensures { IfOk result (λ made. made ≡ (parameter_at_entry number, value.now)) }
+{
+    let value = value.copy(alloc)?;
+    Ok((parameter_at_entry(alloc, number)?, value))
+}
+
+fn passed_values(alloc: Global, args: &[Term]) -> Result<Vec<(Sym, Term)>, AllocError>
+    ensures { IfOk result (λ made. made.items ≡ entry_values 1 args.now) }
+{
+    let mut pairs = Vec::new(alloc);
+    let mut done = 0;
+    while done < args.len() {
+        pairs.push(passed(alloc, done + 1, &args[done])?)?;
+        done += 1;
+    }
+    Ok(pairs)
+}
+
+// The parameters at entry have these values.
 pub(crate) fn passing(alloc: Global, args: &[Term]) -> Result<Changes, AllocError>
     ensures { IfOk result (λ made. made ≡ passing args.now) }
 {
-    Err(AllocError)
+    Ok(Changes {
+        numbers: Items::from_vec(passed_values(alloc, args)?),
+        arrays: Items::new(alloc),
+    })
 }
 
+// A global at entry is what it is now, as a number.
+fn entered_number(alloc: Global, global: &Name) -> Result<(Sym, Term), AllocError>
+    ensures { IfOk result (λ made. made ≡ (global_at_entry global.now, name (current global.now))) }
+{
+    let value = Term::name(alloc, current(alloc, global)?)?;
+    Ok((global_at_entry(alloc, global)?, value))
+}
+
+// A global at entry is what it is now, as an array.
+fn entered_array(alloc: Global, global: &Name) -> Result<(Sym, ArrayTerm), AllocError>
+    ensures { IfOk result (λ made. made ≡ (global_at_entry global.now, array (current global.now))) }
+{
+    let value = ArrayTerm::base(alloc, current(alloc, global)?)?;
+    Ok((global_at_entry(alloc, global)?, value))
+}
+
+fn entered_numbers(alloc: Global, globals: &[GlobalVar]) -> Result<Vec<(Sym, Term)>, AllocError>
+    ensures { IfOk result (λ made. made.items
+        ≡ map (λ g. (global_at_entry g, name (current g))) (map (λ (d : GlobalVar). d.name) globals.now)) }
+{
+    let mut pairs = Vec::new(alloc);
+    for global in globals {
+        pairs.push(entered_number(alloc, &global.name)?)?;
+    }
+    Ok(pairs)
+}
+
+fn entered_arrays(alloc: Global, globals: &[GlobalVar]) -> Result<Vec<(Sym, ArrayTerm)>, AllocError>
+    ensures { IfOk result (λ made. made.items
+        ≡ map (λ g. (global_at_entry g, array (current g))) (map (λ (d : GlobalVar). d.name) globals.now)) }
+{
+    let mut pairs = Vec::new(alloc);
+    for global in globals {
+        pairs.push(entered_array(alloc, &global.name)?)?;
+    }
+    Ok(pairs)
+}
+
+// The current value of a parameter, as its value at entry.
+fn own_value(alloc: Global, number: usize, param: &Name) -> Result<(Sym, Term), AllocError>
+    ensures { IfOk result (λ made. made ≡ (parameter_at_entry number, name (current param.now))) }
+{
+    let value = Term::name(alloc, current(alloc, param)?)?;
+    Ok((parameter_at_entry(alloc, number)?, value))
+}
+
+fn own_values(alloc: Global, params: &[(Kind, Name)]) -> Result<Vec<(Sym, Term)>, AllocError>
+    ensures { IfOk result (λ made. made.items
+        ≡ entry_values 1 (map (λ x. name (current x)) (map (λ p. p.1) params.now))) }
+{
+    let mut pairs = Vec::new(alloc);
+    let mut done = 0;
+    while done < params.len() {
+        pairs.push(own_value(alloc, done + 1, &params[done].1)?)?;
+        done += 1;
+    }
+    Ok(pairs)
+}
+
+// A body begins: a global and a parameter at entry are what they are now.
 pub(crate) fn entering(alloc: Global, program: &Program, func: &Func) -> Result<Changes, AllocError>
     ensures { IfOk result (λ made. made
         ≡ entering (map (λ g. g.name) program.now.globals) (map (λ p. p.1) func.now.params)) }
 {
-    Err(AllocError)
+    let globals = program.globals.as_slice();
+    let mut numbers = entered_numbers(alloc, globals)?;
+    numbers.append(&mut own_values(alloc, func.params.as_slice())?)?;
+    let numbers = Items::from_vec(numbers);
+    Ok(Changes {
+        numbers,
+        arrays: Items::from_vec(entered_arrays(alloc, globals)?),
+    })
 }
