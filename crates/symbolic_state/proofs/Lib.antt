@@ -1,2 +1,4 @@
 pub mod StepLaws
 pub mod BindingLaws
+pub mod FinishedLaws
+pub mod ValueLaws

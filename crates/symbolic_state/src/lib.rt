@@ -4,6 +4,7 @@
 
 mod bindings;
 mod changes;
+pub mod laws;
 mod state;
 mod step;
 
