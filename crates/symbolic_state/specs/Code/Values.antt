@@ -1,7 +1,14 @@
 -- What a name stands for at a step, by the values that it got before.
-use Rattle.std.specs.Prelude.{◌≡◌, ℕ, ◌<◌, nat_eq, if◌then◌else◌, List, [], ◌∷◌, ◌++◌, length, Option, Some, None}
+use Rattle.std.specs.Prelude.{◌≡◌, ℕ, ◌<◌, nat_eq, if◌then◌else◌, List, [], ◌∷◌, ◌++◌, length, find, slice_get, Option, Some, None}
+use Rattle.std.specs.Option.{option_map}
 use Rattle.c_lang.specs.Names.{Bytes}
-use Rattle.terms.specs.Replacing.{Change}
+use Rattle.terms.specs.declared.sym.Sym.{Sym}
+use Rattle.terms.specs.Symbols.{same_sym}
+use Rattle.terms.specs.Trees.{TermTree, name, ArrayTree, array}
+use Rattle.terms.specs.Replacing.{Change, replaced_term, replaced_array}
+use Rattle.expression_conditions.specs.Meanings.{current}
+use Rattle.weakest_preconditions.specs.EntryNames.{bound}
+use Rattle.symbolic_state.specs.declared.step.Step.TheVariants as step
 use Rattle.symbolic_state.specs.declared.step.Step.{Step}
 use Rattle.symbolic_state.specs.declared.bindings.Binding.{Binding}
 use Rattle.symbolic_state.specs.Steps.{outermost}
@@ -60,3 +67,38 @@ IsFound K steps x t (Some b) = Source K steps b (K.at (change_of (outermost t st
 pub record IsKind {T : Type 0} (K : Kind T) : Type 0 where
   pub initial : (x : Bytes) → K.at (change_of []) x ≡ K.start x
   pub kept : (s : Step) (steps : List Step) (x : Bytes) → K.value x s ≡ None → K.at (change_of (s ∷ steps)) x ≡ K.at (change_of steps) x
+
+-- ---- the two kinds
+
+abbrev pub numbers_of : Step → List (Sym × TermTree)
+numbers_of (step.Replaces c) = c.numbers
+numbers_of (step.Assumes f) = []
+
+abbrev pub arrays_of : Step → List (Sym × ArrayTree)
+arrays_of (step.Replaces c) = c.arrays
+arrays_of (step.Assumes f) = []
+
+-- the bound number is never replaced
+abbrev pub number_in : Bytes → Step → Option TermTree
+number_in x s = if same_sym bound (current x) then None else option_map (λ p. p.1) (find (λ p. same_sym p.0 (current x)) (numbers_of s))
+
+abbrev pub array_in : Bytes → Step → Option ArrayTree
+array_in x s = option_map (λ p. p.1) (find (λ p. same_sym p.0 (current x)) (arrays_of s))
+
+abbrev pub as_numbers : Kind TermTree
+as_numbers = record {
+  pair = λ s k. option_map (λ p. p.1) (slice_get (numbers_of s) k);
+  value = number_in;
+  at = λ c x. c.number (current x);
+  put = replaced_term;
+  start = λ x. name (current x);
+}
+
+abbrev pub as_arrays : Kind ArrayTree
+as_arrays = record {
+  pair = λ s k. option_map (λ p. p.1) (slice_get (arrays_of s) k);
+  value = array_in;
+  at = λ c x. c.array (current x);
+  put = replaced_array;
+  start = λ x. array (current x);
+}
