@@ -3,3 +3,4 @@ pub mod BindingLaws
 pub mod FinishedLaws
 pub mod ValueLaws
 pub mod KindLaws
+pub mod WritingLaws

@@ -2,3 +2,4 @@
 pub mod Bindings
 pub mod Joined
 pub mod Values
+pub mod Writing

@@ -1,12 +1,19 @@
 //! What finished conditions are, all steps taken together. The functions do nothing: each contract is a law.
-ghost use Rattle.std.specs.Prelude.{◌≡◌, ℕ, List};
+ghost use Rattle.std.specs.Prelude.{◌≡◌, ℕ, List, ◌∷◌};
 ghost use Rattle.c_lang.specs.Names.{Bytes};
+ghost use Rattle.terms.specs.declared.sym.Sym.{Sym};
+ghost use Rattle.terms.specs.declared.node.Node.{Node};
+ghost use Rattle.terms.specs.declared.node.NodeKind.TheVariants as kind;
+ghost use Rattle.terms.specs.Trees.{TermTree, ArrayTree};
+ghost use Rattle.terms.specs.Nodes.{node, term_nodes, array_nodes};
+ghost use Rattle.terms.specs.Replacing.{Change, replaced_term, replaced_array};
 ghost use Rattle.weakest_preconditions.specs.Binding.{BindsBound};
 ghost use Rattle.weakest_preconditions.specs.Wp.{Condition};
 ghost use Rattle.symbolic_state.specs.declared.step.Step.{Step};
 ghost use Rattle.symbolic_state.specs.declared.bindings.Binding.{Binding};
 ghost use Rattle.symbolic_state.specs.Steps.{finished};
 ghost use Rattle.symbolic_state.specs.Code.Bindings.{latest};
+ghost use Rattle.symbolic_state.specs.Code.Writing.{written};
 ghost use Rattle.symbolic_state.specs.Code.Values.{as_numbers, as_arrays, HasValues, IsFound};
 ghost use Rattle.symbolic_state.specs.Code.Joined.{AllBindBound, GivesBound, joined};
 
@@ -24,4 +31,14 @@ pub fn latest_value_counts()
         HasValues as_numbers steps x bs → IsFound as_numbers steps x t (latest t bs) }
     ensures arrays { (steps : List Step) (x : Bytes) (bs : List Binding) (t : ℕ) →
         HasValues as_arrays steps x bs → IsFound as_arrays steps x t (latest t bs) }
+{}
+
+/// While a finished formula is written, the nodes of what a name stands for come next, in place of the name.
+pub fn values_are_written_next()
+    ensures numbers { (c d : Change) (out rest : List Node) (x : Sym) (n : ℕ) (frames : List (Change × List Node)) (t : TermTree) →
+        c.number x ≡ replaced_term d t →
+        written out ((c, node (kind.Of x) n ∷ rest) ∷ frames) ≡ written out ((d, term_nodes t) ∷ ((c, rest) ∷ frames)) }
+    ensures arrays { (c d : Change) (out rest : List Node) (x : Sym) (n : ℕ) (frames : List (Change × List Node)) (a : ArrayTree) →
+        c.array x ≡ replaced_array d a →
+        written out ((c, node (kind.Base x) n ∷ rest) ∷ frames) ≡ written out ((d, array_nodes a) ∷ ((c, rest) ∷ frames)) }
 {}
