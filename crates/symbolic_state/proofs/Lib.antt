@@ -4,3 +4,4 @@ pub mod FinishedLaws
 pub mod ValueLaws
 pub mod KindLaws
 pub mod WritingLaws
+pub mod ChangeLaws

@@ -1,5 +1,5 @@
 //! What finished conditions are, all steps taken together. The functions do nothing: each contract is a law.
-ghost use Rattle.std.specs.Prelude.{◌≡◌, ℕ, List, ◌∷◌};
+ghost use Rattle.std.specs.Prelude.{◌≡◌, ℕ, List, ◌∷◌, length};
 ghost use Rattle.c_lang.specs.Names.{Bytes};
 ghost use Rattle.terms.specs.declared.sym.Sym.{Sym};
 ghost use Rattle.terms.specs.declared.node.Node.{Node};
@@ -12,7 +12,7 @@ ghost use Rattle.weakest_preconditions.specs.Wp.{Condition};
 ghost use Rattle.symbolic_state.specs.declared.step.Step.{Step};
 ghost use Rattle.symbolic_state.specs.declared.bindings.Binding.{Binding};
 ghost use Rattle.symbolic_state.specs.Steps.{finished};
-ghost use Rattle.symbolic_state.specs.Code.Bindings.{latest};
+ghost use Rattle.symbolic_state.specs.Code.Bindings.{latest, unbound};
 ghost use Rattle.symbolic_state.specs.Code.Writing.{written};
 ghost use Rattle.symbolic_state.specs.Code.Values.{as_numbers, as_arrays, HasValues, IsFound};
 ghost use Rattle.symbolic_state.specs.Code.Joined.{AllBindBound, GivesBound, joined};
@@ -41,4 +41,12 @@ pub fn values_are_written_next()
     ensures arrays { (c d : Change) (out rest : List Node) (x : Sym) (n : ℕ) (frames : List (Change × List Node)) (a : ArrayTree) →
         c.array x ≡ replaced_array d a →
         written out ((c, node (kind.Base x) n ∷ rest) ∷ frames) ≡ written out ((d, array_nodes a) ∷ ((c, rest) ∷ frames)) }
+{}
+
+/// A step that is taken back takes its value of each name with it.
+pub fn values_are_taken_back()
+    ensures numbers { (s : Step) (steps : List Step) (x : Bytes) (bs : List Binding) →
+        HasValues as_numbers (s ∷ steps) x bs → HasValues as_numbers steps x (unbound (length steps) bs) }
+    ensures arrays { (s : Step) (steps : List Step) (x : Bytes) (bs : List Binding) →
+        HasValues as_arrays (s ∷ steps) x bs → HasValues as_arrays steps x (unbound (length steps) bs) }
 {}
