@@ -1,5 +1,5 @@
 //! What finished conditions are, all steps taken together. The functions do nothing: each contract is a law.
-ghost use Rattle.std.specs.Prelude.{◌≡◌, ℕ, List, ◌∷◌, length};
+ghost use Rattle.std.specs.Prelude.{◌≡◌, ℕ, List, ◌∷◌, length, Some};
 ghost use Rattle.c_lang.specs.Names.{Bytes};
 ghost use Rattle.terms.specs.declared.sym.Sym.{Sym};
 ghost use Rattle.terms.specs.declared.node.Node.{Node};
@@ -12,10 +12,10 @@ ghost use Rattle.weakest_preconditions.specs.Wp.{Condition};
 ghost use Rattle.symbolic_state.specs.declared.step.Step.{Step};
 ghost use Rattle.symbolic_state.specs.declared.bindings.Binding.{Binding};
 ghost use Rattle.symbolic_state.specs.Steps.{finished};
-ghost use Rattle.symbolic_state.specs.Code.Bindings.{latest, unbound};
+ghost use Rattle.symbolic_state.specs.Code.Bindings.{latest, bound, unbound};
 ghost use Rattle.symbolic_state.specs.Code.Writing.{written};
-ghost use Rattle.symbolic_state.specs.Code.Values.{as_numbers, as_arrays, HasValues, IsFound};
-ghost use Rattle.symbolic_state.specs.Code.Joined.{AllBindBound, GivesBound, joined};
+ghost use Rattle.symbolic_state.specs.Code.Values.{as_numbers, as_arrays, number_in, array_in, Source, HasValues, IsFound};
+ghost use Rattle.symbolic_state.specs.Code.Joined.{change_of, AllBindBound, GivesBound, joined};
 
 /// All steps together are one change and the facts that they give, where each fact binds no number but `$`.
 #[tactic(auto, using(crate::proofs::FinishedLaws::finished_is))]
@@ -49,4 +49,16 @@ pub fn values_are_taken_back()
         HasValues as_numbers (s ∷ steps) x bs → HasValues as_numbers steps x (unbound (length steps) bs) }
     ensures arrays { (s : Step) (steps : List Step) (x : Bytes) (bs : List Binding) →
         HasValues as_arrays (s ∷ steps) x bs → HasValues as_arrays steps x (unbound (length steps) bs) }
+{}
+
+/// The first value that a new step gives a name is the name's latest one.
+pub fn values_are_added()
+    ensures numbers { (s : Step) (steps : List Step) (x : Bytes) (bs : List Binding) (b : Binding) (t : TermTree) →
+        number_in x s ≡ Some t → b.step ≡ length steps →
+        Source as_numbers (s ∷ steps) b (as_numbers.at (change_of (s ∷ steps)) x) →
+        HasValues as_numbers steps x bs → HasValues as_numbers (s ∷ steps) x (bound bs b) }
+    ensures arrays { (s : Step) (steps : List Step) (x : Bytes) (bs : List Binding) (b : Binding) (a : ArrayTree) →
+        array_in x s ≡ Some a → b.step ≡ length steps →
+        Source as_arrays (s ∷ steps) b (as_arrays.at (change_of (s ∷ steps)) x) →
+        HasValues as_arrays steps x bs → HasValues as_arrays (s ∷ steps) x (bound bs b) }
 {}
