@@ -1,5 +1,5 @@
 -- What may stand in a clause of hints.
-use Rattle.std.specs.Prelude.{ℕ, zero, suc, ◌==◌, ℤ, pos, Bool, true, false, not, ◌&&◌, ◌||◌, List, [], ◌∷◌, length, Option, Some, None, int_le}
+use Rattle.std.specs.Prelude.{ℕ, zero, suc, ◌==◌, ℤ, pos, Bool, true, false, not, ◌&&◌, ◌||◌, List, [], ◌∷◌, ◌++◌, length, Option, Some, None, int_le}
 use Rattle.std.specs.List.{list_any}
 use Rattle.std.specs.Str.{bytes_eq}
 use Rattle.c_lang.specs.Names.{Bytes}
@@ -40,10 +40,10 @@ abbrev pub is_scalar : Option GlobalVar → Bool
 is_scalar None = false
 is_scalar (Some g) = not (holds_array g.shape)
 
--- the texts of the entry values of n parameters from the k-th on
-abbrev pub parameter_texts : ℕ → ℕ → List Bytes
-parameter_texts k zero = []
-parameter_texts k (suc n) = parameter_text k ∷ parameter_texts (suc k) n
+-- the texts of the entry values of n parameters
+abbrev pub parameter_texts : ℕ → List Bytes
+parameter_texts zero = []
+parameter_texts (suc n) = parameter_texts n ++ (parameter_text (suc n) ∷ [])
 
 -- the value at entry of a global of which `is` holds
 abbrev pub is_entry_of : (Option GlobalVar → Bool) → List GlobalVar → Bytes → Bool
@@ -51,7 +51,7 @@ is_entry_of is globals x = list_any (λ g. is (global_named globals g.name) && b
 
 abbrev pub number_may_stand : Program → Place → Bytes → Bool
 number_may_stand p at x = is_scalar (global_named p.globals x) || (is_among x at.locals
-    || (is_among x (parameter_texts 1 at.parameters) || ((at.result && bytes_eq result_base x)
+    || (is_among x (parameter_texts at.parameters) || ((at.result && bytes_eq result_base x)
     || (at.entry && is_entry_of is_scalar p.globals x))))
 
 abbrev pub array_may_stand : Program → Place → Bytes → Bool

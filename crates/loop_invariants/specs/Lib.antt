@@ -7,3 +7,4 @@ pub mod Loops
 pub mod Clauses
 pub mod Assigned
 pub mod Fitting
+pub mod Code
