@@ -1,0 +1,4 @@
+pub mod Turns
+pub mod PartLaws
+pub mod LexLaws
+pub mod LineLaws

@@ -1,0 +1,12 @@
+//! Hints texts: what a text says of a program's functions and loops, as a list of items. Which text
+//! is which list stands in `specs/Texts`.
+#![tactic(auto)]
+
+pub mod fault;
+pub mod hints;
+mod lexer;
+pub mod token;
+
+pub use fault::Fault;
+pub use hints::{Clause, ClauseKind, Head, Item, Quantified, Statement};
+pub use token::{Closing, Kind, Piece, Token};
