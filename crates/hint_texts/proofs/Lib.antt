@@ -2,3 +2,6 @@ pub mod Turns
 pub mod PartLaws
 pub mod LexLaws
 pub mod LineLaws
+pub mod CutLaws
+pub mod FormulaLaws
+pub mod ItemLaws

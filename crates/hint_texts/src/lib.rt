@@ -4,7 +4,12 @@
 
 pub mod fault;
 pub mod hints;
+mod fact;
+mod formula;
+mod front;
+mod items;
 mod lexer;
+mod statement;
 pub mod token;
 
 pub use fault::Fault;
