@@ -5,4 +5,5 @@ pub mod LineLaws
 pub mod CutLaws
 pub mod FrontLaws
 pub mod FormulaLaws
+pub mod FactLaws
 pub mod ItemLaws
