@@ -6,4 +6,6 @@ pub mod CutLaws
 pub mod FrontLaws
 pub mod FormulaLaws
 pub mod FactLaws
+pub mod StatementLaws
+pub mod TextLaws
 pub mod ItemLaws

@@ -9,9 +9,11 @@ mod formula;
 mod front;
 mod items;
 mod lexer;
+mod read;
 mod statement;
 pub mod token;
 
 pub use fault::Fault;
 pub use hints::{Clause, ClauseKind, Head, Item, Quantified, Statement};
+pub use read::{one_list_of_items, read_items};
 pub use token::{Closing, Kind, Piece, Token};

@@ -194,6 +194,9 @@ without_clauses (c ∷ cs, items) = None
 abbrev pub grouped : List Statement → Option (List Item)
 grouped ss = without_clauses (group ss)
 
+abbrev pub kept_by : List Token → List Item → Option (List Item)
+kept_by ts items = if is_nested 0 ts && list_all is_item items then Some items else None
+
 module _ (number : Bytes → ℕ) where
   -- behind `&`
   abbrev pub function_at : Step Token FormulaToken
@@ -271,9 +274,6 @@ module _ (number : Bytes → ℕ) where
 
   abbrev pub items_of : List Token → Option (List Item)
   items_of ts = parts_in statement_at ts >>= grouped
-
-  abbrev pub kept_by : List Token → List Item → Option (List Item)
-  kept_by ts items = if is_nested 0 ts && list_all is_item items then Some items else None
 
   abbrev pub hints_of : List Token → Option (List Item)
   hints_of ts = items_of ts >>= kept_by ts
