@@ -1,8 +1,8 @@
 -- What stands before the first end of a kind.
-use Rattle.std.proofs.Common.{◌≡◌, ℕ, zero, suc, ◌+◌, ◌<◌, ◌≤◌, Bool, true, false, not, cond, eqb, List, [], ◌∷◌, ◌++◌, length, take, drop, Option, Some, None, refl, sym, ap, ◌∙◌, arith, inl, inr}
+use Rattle.std.proofs.Common.{◌≡◌, ℕ, suc, ◌+◌, ◌<◌, Bool, true, false, not, cond, eqb, List, [], ◌∷◌, ◌++◌, length, take, drop, Option, Some, None, refl, sym, ap, ◌∙◌, arith, inl, inr}
 use Rattle.std.specs.List.{list_all}
 use Rattle.std.proofs.lemmas.Bool.{eqb-true}
-use Rattle.c_lexer.proofs.Cases.{chosen, by_test, and_both, not_true}
+use Rattle.c_lexer.proofs.Cases.{chosen, and_both, not_true}
 use Rattle.hint_texts.specs.declared.token.Token.{Token}
 use Rattle.hint_texts.specs.declared.token.Kind.{Kind}
 use Rattle.hint_texts.specs.declared.token.Kind.TheVariants as kind
@@ -75,9 +75,9 @@ pub record IsCut (c : Closing) (ts front rest : List Token) : Type 0 where
 pub cut_is : (c : Closing) (ts front rest : List Token) → cut c ts ≡ Some (front, rest) → IsCut c ts front rest
 cut_is c [] front rest e = absurd cc
 cut_is c (t ∷ ts) front rest e = elim (chosen (is_closing c t.kind) (Some ([], ts)) (with_first t (cut c ts)) (Some (front, rest)) e) [
-      | inl h ↦ here (closing_is c t.kind h.0) h.1
-      | inr h ↦ later (λ f r s. cut_is c ts f r s) (cut c ts) refl h.1
-    ]
+  | inl h ↦ here (closing_is c t.kind h.0) h.1
+  | inr h ↦ later (λ f r s. cut_is c ts f r s) (cut c ts) refl h.1
+]
   where
     pair_is : (x y : List Token × List Token) → Some x ≡ Some y → x ≡ y
     pair_is x y h = cc

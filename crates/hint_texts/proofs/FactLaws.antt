@@ -1,5 +1,5 @@
 -- Facts are read exactly where the tokens are one.
-use Rattle.std.proofs.Common.{◌≡◌, ℕ, ◌+◌, ◌≤◌, Bool, true, false, not, ◌&&◌, cond, List, [], ◌∷◌, ◌++◌, drop, Option, Some, None, refl, sym, ap, ◌∙◌, subst, arith, inl, inr}
+use Rattle.std.proofs.Common.{◌≡◌, ℕ, true, not, List, [], ◌∷◌, ◌++◌, drop, Option, Some, None, refl, sym, ap, ◌∙◌, subst, inl, inr}
 use Rattle.std.specs.Prelude.{codes}
 use Rattle.c_lang.specs.Names.{Bytes}
 use Rattle.c_lexer.proofs.Cases.{chosen, by_option, and_both}
@@ -14,7 +14,7 @@ use Rattle.hint_texts.specs.declared.token.Closing.TheVariants as closing
 use Rattle.hint_texts.specs.declared.hints.Quantified.{Quantified}
 use Rattle.hint_texts.specs.Grammar.{at, plain_fact, every, Quantifies, IsFact, IsForm, IsSum}
 use Rattle.hint_texts.specs.Grammar as grammar
-use Rattle.hint_texts.specs.Code.Reading.{name_in, cut, is_word, first_name, quantified_name, word_at, form_of, sum_of, every_of, plain_of, fact_by, fact_of, is_closing}
+use Rattle.hint_texts.specs.Code.Reading.{name_in, cut, is_word, quantified_name, word_at, form_of, sum_of, every_of, plain_of, fact_by, fact_of, is_closing}
 use Rattle.hint_texts.proofs.CutLaws.{is_free, cut_again, cut_is}
 use Rattle.hint_texts.proofs.FrontLaws.{some_is, name_in-is, is_word-is, word_at-is}
 use Rattle.hint_texts.proofs.FormulaLaws.{formula_free, form_again, sum_again, form_is, sum_is}
@@ -28,18 +28,18 @@ free_append c (t ∷ ts) us first second =
 quantified_is : (ts : List Token) (x : Bytes) → quantified_name ts ≡ Some x → (l m : ℕ) × (rest : List Token) × (ts ≡ at l (kind.Name (codes "forall")) ∷ at m (kind.Name x) ∷ rest)
 quantified_is [] x e = absurd cc
 quantified_is (t ∷ []) x e = elim (chosen (is_word (codes "forall") t.kind) None None (Some x) e) [
-      | inl h ↦ absurd (let f = h.1 in cc)
-      | inr h ↦ absurd (let f = h.1 in cc)
-    ]
+  | inl h ↦ absurd (let f = h.1 in cc)
+  | inr h ↦ absurd (let f = h.1 in cc)
+]
 quantified_is (t ∷ u ∷ us) x e = elim (chosen (is_word (codes "forall") t.kind) (name_in u.kind) None (Some x) e) [
-      | inl h ↦ (
-          t.line,
-          u.line,
-          us,
-          ap (λ (k : Kind). at t.line k ∷ u ∷ us) (is_word-is (codes "forall") t.kind h.0) ∙ ap (λ (k : Kind). at t.line (kind.Name (codes "forall")) ∷ at u.line k ∷ us) (name_in-is u.kind x h.1),
-        )
-      | inr h ↦ absurd (let f = h.1 in cc)
-    ]
+  | inl h ↦ (
+    t.line,
+    u.line,
+    us,
+    ap (λ (k : Kind). at t.line k ∷ u ∷ us) (is_word-is (codes "forall") t.kind h.0) ∙ ap (λ (k : Kind). at t.line (kind.Name (codes "forall")) ∷ at u.line k ∷ us) (name_in-is u.kind x h.1),
+  )
+  | inr h ↦ absurd (let f = h.1 in cc)
+]
 
 quantified_none : (ts : List Token) → (Quantifies ts → ⊥) → quantified_name ts ≡ None
 quantified_none ts never = by_option (λ (o : Option Bytes). quantified_name ts ≡ o → o ≡ None) (quantified_name ts) (λ none e. refl)

@@ -1,20 +1,17 @@
 -- Forms and sums are read exactly where the tokens are one.
-use Rattle.std.proofs.Common.{◌≡◌, ℕ, suc, ◌+◌, ◌<◌, ◌≤◌, Bool, true, false, ◌&&◌, cond, eqb, ltb, pos, List, [], ◌∷◌, ◌++◌, length, Option, Some, None, refl, sym, ap, ◌∙◌, subst, arith, inl, inr}
+use Rattle.std.proofs.Common.{◌≡◌, ℕ, ◌≤◌, Bool, true, false, ◌&&◌, cond, ltb, pos, List, [], ◌∷◌, ◌++◌, Option, Some, None, refl, sym, ap, ◌∙◌, subst, arith, inl, inr}
 use Rattle.std.specs.Prelude.{codes, bytes_eq}
-use Rattle.std.specs.List.{list_all}
-use Rattle.std.proofs.lemmas.Bool.{eqb-true, ltb-true, lt-ltb}
-use Rattle.std.proofs.lemmas.Slice.Eq.{bytes_eq-Decides}
+use Rattle.std.proofs.lemmas.Bool.{ltb-true, lt-ltb}
 use Rattle.c_lang.specs.Names.{Bytes}
 use Rattle.c_lexer.proofs.Cases.{chosen, by_option, and_both, same_bytes}
 use Rattle.formula_texts.specs.declared.token.Token.{Token as FormulaToken}
 use Rattle.formula_texts.specs.declared.token.Token.TheVariants as token
-use Rattle.formula_texts.specs.declared.token.Mark.{Mark}
 use Rattle.formula_texts.specs.declared.token.Mark.TheVariants as mark
 use Rattle.formula_texts.specs.declared.value.Value.{Value}
 use Rattle.formula_texts.specs.Grammar.{◌>>=◌}
 use Rattle.formula_texts.specs.Texts.{AreOf}
 use Rattle.formula_texts.specs.Code.Reading.{value_in}
-use Rattle.formula_texts.proofs.OperatorLaws.{bind_some, same_mark}
+use Rattle.formula_texts.proofs.OperatorLaws.{bind_some}
 use Rattle.formula_texts.proofs.TokenLaws.{value_again, value_is}
 use Rattle.formula_texts.specs.declared.value.Value.TheVariants as value
 use Rattle.formula_texts.specs.Grammar.{term_in, form_in}
@@ -100,12 +97,12 @@ module _ (number : Bytes → ℕ) where
   named_read : (l : ℕ) (x : Bytes) (ts : List Token) (y : FormulaToken × List Token) → named x ts ≡ Some y → Reads l (kind.Name x) ts y
   unfolding Reads
   named_read l x ts y e = elim (chosen (bytes_eq x (codes "pre") && opens ts) (entry_at ts) (Some (token.Base x, ts)) (Some y) e) [
-        | inl h ↦
-            let same = same_bytes x (codes "pre") (and_both (bytes_eq x (codes "pre")) (opens ts) h.0).0 in
-            subst (λ (z : Bytes). IsRead (IsPart number) (at l (kind.Name z) ∷ ts) y.0 y.1) (sym same) (entry_read l ts y h.1)
-        | inr h ↦ subst (λ (z : FormulaToken × List Token). IsRead (IsPart number) (at l (kind.Name x) ∷ ts) z.0 z.1) (some_is (token.Base x, ts) y h.1)
-            (record { front = at l (kind.Name x) ∷ []; splits = refl; is = grammar.name l x (λ same open_now. let f = entry_test x ts same (opens_again ts open_now) in absurd (let g = sym f ∙ h.0 in cc)) })
-      ]
+    | inl h ↦
+        let same = same_bytes x (codes "pre") (and_both (bytes_eq x (codes "pre")) (opens ts) h.0).0 in
+        subst (λ (z : Bytes). IsRead (IsPart number) (at l (kind.Name z) ∷ ts) y.0 y.1) (sym same) (entry_read l ts y h.1)
+    | inr h ↦ subst (λ (z : FormulaToken × List Token). IsRead (IsPart number) (at l (kind.Name x) ∷ ts) z.0 z.1) (some_is (token.Base x, ts) y h.1)
+        (record { front = at l (kind.Name x) ∷ []; splits = refl; is = grammar.name l x (λ same open_now. let f = entry_test x ts same (opens_again ts open_now) in absurd (let g = sym f ∙ h.0 in cc)) })
+  ]
 
   part_read : (l : ℕ) (k : Kind) (ts : List Token) (x : FormulaToken × List Token) → part_by number k ts ≡ Some x → Reads l k ts x
   unfolding Reads

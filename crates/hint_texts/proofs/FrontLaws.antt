@@ -1,6 +1,5 @@
 -- What stands at the front of the tokens.
-use Rattle.std.proofs.Common.{◌≡◌, ℕ, ℤ, pos, negsuc, ◌+◌, ◌≤◌, Bool, true, false, ◌&&◌, cond, eqb, leb, List, [], ◌∷◌, ◌++◌, Option, Some, None, refl, sym, ap, ◌∙◌, subst, arith, inl, inr}
-use Rattle.std.specs.Prelude.{bytes_eq}
+use Rattle.std.proofs.Common.{◌≡◌, ℕ, ℤ, pos, negsuc, ◌≤◌, true, leb, List, [], ◌∷◌, Option, Some, None, refl, ap, ◌∙◌, subst, inl, inr}
 use Rattle.std.proofs.lemmas.Bool.{eqb-true, leb-true}
 use Rattle.c_lang.specs.Names.{Bytes}
 use Rattle.c_lexer.proofs.Cases.{chosen, same_bytes}
@@ -44,9 +43,9 @@ mark_is m (kind.Closing c) e = absurd cc
 pub mark_at-is : (m : Mark) (ts rest : List Token) → mark_at m ts ≡ Some rest → (l : ℕ) × (ts ≡ at l (mark_kind m) ∷ rest)
 mark_at-is m [] rest e = absurd cc
 mark_at-is m (t ∷ ts) rest e = elim (chosen (is_mark m t.kind) (Some ts) None (Some rest) e) [
-      | inl h ↦ (t.line, ap (λ (k : Kind). at t.line k ∷ ts) (mark_is m t.kind h.0) ∙ ap (λ (us : List Token). at t.line (mark_kind m) ∷ us) (some_is ts rest h.1))
-      | inr h ↦ absurd (let f = h.1 in cc)
-    ]
+  | inl h ↦ (t.line, ap (λ (k : Kind). at t.line k ∷ ts) (mark_is m t.kind h.0) ∙ ap (λ (us : List Token). at t.line (mark_kind m) ∷ us) (some_is ts rest h.1))
+  | inr h ↦ absurd (let f = h.1 in cc)
+]
 
 pub opens_is : (ts : List Token) → opens ts ≡ true → Opens ts
 opens_is [] e = absurd cc
@@ -77,9 +76,9 @@ name_at-is (t ∷ ts) rest x e = (t.line, named-is t ts rest x (name_in t.kind) 
 
 small-is : (z : ℤ) (n : ℕ) → small_number z ≡ Some n → (z ≡ pos n) × (n ≤ number_limit)
 small-is (pos m) n e = elim (chosen (leb m number_limit) (Some m) None (Some n) e) [
-      | inl h ↦ let s = some_is m n h.1 in (ap pos s, subst (λ (k : ℕ). k ≤ number_limit) s (leb-true m number_limit h.0))
-      | inr h ↦ absurd (let f = h.1 in cc)
-    ]
+  | inl h ↦ let s = some_is m n h.1 in (ap pos s, subst (λ (k : ℕ). k ≤ number_limit) s (leb-true m number_limit h.0))
+  | inr h ↦ absurd (let f = h.1 in cc)
+]
 small-is (negsuc m) n e = absurd cc
 
 number_token-is : (t : FormulaToken) (n : ℕ) → number_token t ≡ Some n → (t ≡ token.Number (pos n)) × (n ≤ number_limit)
@@ -126,6 +125,6 @@ is_word-is w (kind.Closing c) e = absurd cc
 pub word_at-is : (w : Bytes) (ts rest : List Token) → word_at w ts ≡ Some rest → (l : ℕ) × (ts ≡ at l (kind.Name w) ∷ rest)
 word_at-is w [] rest e = absurd cc
 word_at-is w (t ∷ ts) rest e = elim (chosen (is_word w t.kind) (Some ts) None (Some rest) e) [
-      | inl h ↦ (t.line, ap (λ (k : Kind). at t.line k ∷ ts) (is_word-is w t.kind h.0) ∙ ap (λ (us : List Token). at t.line (kind.Name w) ∷ us) (some_is ts rest h.1))
-      | inr h ↦ absurd (let f = h.1 in cc)
-    ]
+  | inl h ↦ (t.line, ap (λ (k : Kind). at t.line k ∷ ts) (is_word-is w t.kind h.0) ∙ ap (λ (us : List Token). at t.line (kind.Name w) ∷ us) (some_is ts rest h.1))
+  | inr h ↦ absurd (let f = h.1 in cc)
+]

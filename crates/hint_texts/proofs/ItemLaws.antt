@@ -1,7 +1,6 @@
 -- Items are the statements that they were put together from.
-use Rattle.std.proofs.Common.{◌≡◌, ℕ, ◌+◌, ◌≤◌, Bool, true, false, List, [], ◌∷◌, ◌++◌, map, length, Option, Some, None, refl, sym, ap, ◌∙◌, append_assoc, append-nil, arith}
+use Rattle.std.proofs.Common.{◌≡◌, ℕ, ◌≤◌, List, [], ◌∷◌, ◌++◌, map, length, Option, Some, None, refl, sym, ap, ◌∙◌, append_assoc, append-nil}
 use Rattle.std.proofs.lemmas.List.{map-append}
-use Rattle.std.specs.Prelude.{flat_map}
 use Rattle.c_lang.specs.Names.{Bytes}
 use Rattle.hint_texts.specs.declared.fault.Fault.{Fault}
 use Rattle.hint_texts.specs.declared.fault.Fault.TheVariants as fault

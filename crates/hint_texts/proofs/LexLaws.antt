@@ -1,16 +1,15 @@
 -- Cutting a text gives the pieces that it has.
-use Rattle.std.proofs.Common.{◌≡◌, ℕ, zero, suc, ◌+◌, ◌≤◌, Bool, true, false, not, ◌&&◌, ◌||◌, cond, eqb, List, [], ◌∷◌, ◌++◌, length, take, drop, Option, Some, None, refl, sym, ap, ◌∙◌, subst, arith, inl, inr}
+use Rattle.std.proofs.Common.{◌≡◌, ℕ, ◌≤◌, Bool, true, false, not, ◌&&◌, ◌||◌, eqb, [], ◌∷◌, ◌++◌, length, take, drop, Option, Some, None, refl, sym, ap, ◌∙◌, subst, arith}
 use Rattle.std.specs.Prelude.{⊤, slice_index, ◌==◌}
 use Rattle.std.specs.List.{prefix_len, list_all}
-use Rattle.std.specs.Option.{option_map}
 use Rattle.std.proofs.lemmas.Bool.{eqb-true}
 use Rattle.std.proofs.lemmas.Bool.Decides.{nat_tests}
-use Rattle.std.proofs.lemmas.List.{take_at, drop_at, take-append-drop, length-append}
+use Rattle.std.proofs.lemmas.List.{take_at, drop_at, take-append-drop}
 use Rattle.c_lang.specs.Names.{Bytes}
 use Rattle.c_lexer.proofs.Cases.{chosen, by_test, by_option, and_both, or_false, not_true}
 use Rattle.c_lexer.proofs.Runs.{run_again, run_is}
 use Rattle.c_grammar.specs.Bytes.{is_white, is_in_line, is_in_word, IsRun}
-use Rattle.formula_texts.specs.Tokens.{pair_token, number_in}
+use Rattle.formula_texts.specs.Tokens.{number_in}
 use Rattle.hint_texts.specs.declared.token.Kind.{Kind}
 use Rattle.hint_texts.specs.declared.token.Piece.{Piece}
 use Rattle.hint_texts.specs.declared.token.Piece.TheVariants as piece

@@ -1,7 +1,6 @@
 -- The lines of tokens.
-use Rattle.std.proofs.Common.{◌≡◌, ℕ, ◌+◌, ◌≤◌, Bool, true, false, List, ◌∷◌, ◌++◌, Some, refl, sym, ap, ◌∙◌, append_assoc, arith}
+use Rattle.std.proofs.Common.{◌≡◌, ℕ, ◌+◌, ◌≤◌, true, false, List, ◌∷◌, ◌++◌, Some, sym, ap, append_assoc, arith}
 use Rattle.hint_texts.specs.declared.token.Token.{Token}
-use Rattle.hint_texts.specs.declared.token.Kind.{Kind}
 use Rattle.hint_texts.specs.declared.token.Piece.{Piece}
 use Rattle.hint_texts.specs.declared.token.Piece.TheVariants as piece
 use Rattle.hint_texts.specs.Tokens.{line_after, tokens_at, placed}

@@ -1,5 +1,5 @@
 -- A list is a row of parts exactly where it is read as them.
-use Rattle.std.proofs.Common.{◌≡◌, ℕ, zero, suc, ◌≤◌, List, [], ◌∷◌, ◌++◌, length, Option, Some, None, refl, sym, subst, arith}
+use Rattle.std.proofs.Common.{◌≡◌, ℕ, zero, suc, ◌≤◌, List, [], ◌∷◌, ◌++◌, length, Some, refl, sym, subst, arith}
 use Rattle.std.proofs.lemmas.List.{length-append}
 use Rattle.formula_texts.specs.Grammar.{◌>>=◌}
 use Rattle.formula_texts.proofs.OperatorLaws.{bind_some}

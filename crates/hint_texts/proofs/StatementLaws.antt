@@ -1,5 +1,5 @@
 -- Clauses, and the beginnings of items, are read exactly where the tokens are one.
-use Rattle.std.proofs.Common.{◌≡◌, ℕ, pos, ◌+◌, ◌≤◌, Bool, true, false, cond, List, [], ◌∷◌, ◌++◌, Option, Some, None, refl, sym, ap, ◌∙◌, subst, append_assoc, arith, inl, inr}
+use Rattle.std.proofs.Common.{◌≡◌, ℕ, pos, ◌≤◌, true, List, [], ◌∷◌, ◌++◌, Option, Some, None, refl, sym, ap, ◌∙◌, subst, append_assoc, arith, inl, inr}
 use Rattle.std.specs.Prelude.{codes, bytes_eq}
 use Rattle.std.proofs.lemmas.Bool.{le-leb}
 use Rattle.c_lang.specs.Names.{Bytes}
@@ -162,27 +162,27 @@ module _ (number : Bytes → ℕ) where
   statement_read : (l : ℕ) (word : Bytes) (ts : List Token) (x : Statement × List Token) → statement_by number l word ts ≡ Some x → Reads l word ts x
   unfolding statement_by
   statement_read l word ts x e = elim (chosen (bytes_eq word (codes "both")) _ _ (Some x) e) [
-        | inl h ↦ at_word l word (codes "both") ts x h.0 (begins_read (codes "both") head.Both (λ rest k m f. grammar.both k m f) l ts x h.1)
-        | inr e1 ↦ elim (chosen (bytes_eq word (codes "at")) _ _ (Some x) e1.1) [
-          | inl h ↦ at_word l word (codes "at") ts x h.0 (begins_read (codes "at") head.At (λ rest k m f. grammar.one k m f) l ts x h.1)
-          | inr e2 ↦ elim (chosen (bytes_eq word (codes "loop")) _ _ (Some x) e2.1) [
-            | inl h ↦ at_word l word (codes "loop") ts x h.0 (loop_read l ts x h.1)
-            | inr e3 ↦ elim (chosen (bytes_eq word (codes "requires")) _ _ (Some x) e3.1) [
-              | inl h ↦ at_word l word (codes "requires") ts x h.0 (fact_read (codes "requires") clause.Requires (λ rest k m us q is. grammar.requires k m us q is) l ts x h.1)
-              | inr e4 ↦ elim (chosen (bytes_eq word (codes "ensures")) _ _ (Some x) e4.1) [
-                | inl h ↦ at_word l word (codes "ensures") ts x h.0 (fact_read (codes "ensures") clause.Ensures (λ rest k m us q is. grammar.ensures k m us q is) l ts x h.1)
-                | inr e5 ↦ elim (chosen (bytes_eq word (codes "invariant")) _ _ (Some x) e5.1) [
-                  | inl h ↦ at_word l word (codes "invariant") ts x h.0 (fact_read (codes "invariant") clause.Invariant (λ rest k m us q is. grammar.invariant k m us q is) l ts x h.1)
-                  | inr e6 ↦ elim (chosen (bytes_eq word (codes "assigns")) _ _ (Some x) e6.1) [
-                    | inl h ↦ at_word l word (codes "assigns") ts x h.0 (assigns_read l ts x h.1)
-                    | inr h ↦ absurd (let f = h.1 in cc)
-                  ]
-                ]
+    | inl h ↦ at_word l word (codes "both") ts x h.0 (begins_read (codes "both") head.Both (λ rest k m f. grammar.both k m f) l ts x h.1)
+    | inr e1 ↦ elim (chosen (bytes_eq word (codes "at")) _ _ (Some x) e1.1) [
+      | inl h ↦ at_word l word (codes "at") ts x h.0 (begins_read (codes "at") head.At (λ rest k m f. grammar.one k m f) l ts x h.1)
+      | inr e2 ↦ elim (chosen (bytes_eq word (codes "loop")) _ _ (Some x) e2.1) [
+        | inl h ↦ at_word l word (codes "loop") ts x h.0 (loop_read l ts x h.1)
+        | inr e3 ↦ elim (chosen (bytes_eq word (codes "requires")) _ _ (Some x) e3.1) [
+          | inl h ↦ at_word l word (codes "requires") ts x h.0 (fact_read (codes "requires") clause.Requires (λ rest k m us q is. grammar.requires k m us q is) l ts x h.1)
+          | inr e4 ↦ elim (chosen (bytes_eq word (codes "ensures")) _ _ (Some x) e4.1) [
+            | inl h ↦ at_word l word (codes "ensures") ts x h.0 (fact_read (codes "ensures") clause.Ensures (λ rest k m us q is. grammar.ensures k m us q is) l ts x h.1)
+            | inr e5 ↦ elim (chosen (bytes_eq word (codes "invariant")) _ _ (Some x) e5.1) [
+              | inl h ↦ at_word l word (codes "invariant") ts x h.0 (fact_read (codes "invariant") clause.Invariant (λ rest k m us q is. grammar.invariant k m us q is) l ts x h.1)
+              | inr e6 ↦ elim (chosen (bytes_eq word (codes "assigns")) _ _ (Some x) e6.1) [
+                | inl h ↦ at_word l word (codes "assigns") ts x h.0 (assigns_read l ts x h.1)
+                | inr h ↦ absurd (let f = h.1 in cc)
               ]
             ]
           ]
         ]
       ]
+    ]
+  ]
 
   statement_of-read : (t : Token) (ts : List Token) (x : Statement × List Token) (o : Option Bytes) → name_in t.kind ≡ o → statement_of number t.line ts o ≡ Some x → IsRead (IsStatement number) (t ∷ ts) x.0 x.1
   unfolding Reads

@@ -1,15 +1,11 @@
 -- A text is read exactly where it is a hints text.
-use Rattle.std.proofs.Common.{◌≡◌, ℕ, Bool, true, ◌&&◌, cond, List, Option, Some, None, refl, sym, ap, ◌∙◌, subst, inl, inr}
+use Rattle.std.proofs.Common.{◌≡◌, ℕ, ◌&&◌, List, Option, Some, None, refl, sym, ap, ◌∙◌, subst, inl, inr}
 use Rattle.std.specs.Prelude.{flat_map}
 use Rattle.std.specs.List.{list_all}
 use Rattle.c_lang.specs.Names.{Bytes}
 use Rattle.c_lexer.proofs.Cases.{chosen, and_both}
-use Rattle.formula_texts.specs.Grammar.{◌>>=◌}
 use Rattle.formula_texts.proofs.OperatorLaws.{bind_some}
-use Rattle.hint_texts.specs.declared.token.Token.{Token}
-use Rattle.hint_texts.specs.declared.token.Piece.{Piece}
 use Rattle.hint_texts.specs.declared.hints.Item.{Item}
-use Rattle.hint_texts.specs.declared.hints.Statement.{Statement}
 use Rattle.hint_texts.specs.Parts.{AreParts}
 use Rattle.hint_texts.specs.Tokens.{IsPiece, placed}
 use Rattle.hint_texts.specs.Grammar.{IsStatement}

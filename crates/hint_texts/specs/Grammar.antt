@@ -17,7 +17,6 @@ use Rattle.formula_texts.specs.Texts.{AreOf}
 use Rattle.hint_texts.specs.declared.token.Token.{Token}
 use Rattle.hint_texts.specs.declared.token.Kind.{Kind}
 use Rattle.hint_texts.specs.declared.token.Kind.TheVariants as kind
-use Rattle.hint_texts.specs.declared.token.Closing.{Closing}
 use Rattle.hint_texts.specs.declared.token.Closing.TheVariants as closing
 use Rattle.hint_texts.specs.declared.hints.Quantified.{Quantified}
 use Rattle.hint_texts.specs.declared.hints.ClauseKind.TheVariants as clause
@@ -101,9 +100,9 @@ pub data IsFact (number : Bytes → ℕ) : List Token → Quantified → Type 0 
   quantified : (l m n o p : ℕ) (x : Bytes) (first last body : List Token) (lo hi : TermTree) (f : FormTree)
       → IsSum number first lo → IsSum number last hi → IsForm number body f
       → IsFact number
-        (at l (kind.Name (codes "forall")) ∷ at m (kind.Name x) ∷ at n (kind.Name (codes "in")) ∷ first
-        ++ (at o (kind.Closing closing.Range) ∷ last ++ (at p (kind.Closing closing.Colon) ∷ body)))
-        (every x lo hi f)
+      (at l (kind.Name (codes "forall")) ∷ at m (kind.Name x) ∷ at n (kind.Name (codes "in")) ∷ first
+      ++ (at o (kind.Closing closing.Range) ∷ last ++ (at p (kind.Closing closing.Colon) ∷ body)))
+      (every x lo hi f)
 
 -- ---- clauses, and the beginnings of items
 

@@ -94,11 +94,7 @@ fn every_of(
     Ok(every(alloc, name, lo, hi, &body)?)
 }
 
-fn plain_of(
-    alloc: Global,
-    names: &ProgramNames<'_>,
-    tokens: &[Token],
-) -> Result<Quantified, Stop>
+fn plain_of(alloc: Global, names: &ProgramNames<'_>, tokens: &[Token]) -> Result<Quantified, Stop>
     ensures { Gives (λ fact. fact) result (spec.plain_of (function_number names.now) tokens.now) }
 {
     Ok(Quantified {
@@ -108,11 +104,7 @@ fn plain_of(
 }
 
 /// The fact that the tokens are.
-pub fn fact(
-    alloc: Global,
-    names: &ProgramNames<'_>,
-    tokens: &[Token],
-) -> Result<Quantified, Stop>
+pub fn fact(alloc: Global, names: &ProgramNames<'_>, tokens: &[Token]) -> Result<Quantified, Stop>
     ensures { Gives (λ fact. fact) result (spec.fact_of (function_number names.now) tokens.now) }
 {
     match quantified_name(tokens) {

@@ -2,11 +2,11 @@
 //! is which list stands in `specs/Texts`.
 #![tactic(auto)]
 
-pub mod fault;
-pub mod hints;
 mod fact;
+pub mod fault;
 mod formula;
 mod front;
+pub mod hints;
 mod items;
 mod lexer;
 mod read;

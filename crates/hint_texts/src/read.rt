@@ -27,11 +27,7 @@ use std::alloc::Global;
 const FIRST_LINE: u32 = 1;
 
 /// The items that the tokens are, where their clauses may stand in them.
-fn hints_of(
-    alloc: Global,
-    names: &ProgramNames<'_>,
-    tokens: &[Token],
-) -> Result<Items<Item>, Fault>
+fn hints_of(alloc: Global, names: &ProgramNames<'_>, tokens: &[Token]) -> Result<Items<Item>, Fault>
     ensures { Reads (λ items. items) result (spec.hints_of (function_number names.now) tokens.now) }
 {
     let items = items(alloc, names, tokens)?;
@@ -42,11 +38,7 @@ fn hints_of(
     }
 }
 
-fn hints_in(
-    alloc: Global,
-    names: &ProgramNames<'_>,
-    text: &[u8],
-) -> Result<Items<Item>, Fault>
+fn hints_in(alloc: Global, names: &ProgramNames<'_>, text: &[u8]) -> Result<Items<Item>, Fault>
     requires { length text.now < 2 ^ 31 }
     ensures { Reads (λ items. items) result (spec.hints_in (function_number names.now) text.now) }
 {

@@ -156,7 +156,10 @@ fn loop_at(alloc: Global, line: u32, tokens: &[Token]) -> Result<(Statement, &[T
 {
     let (name, behind) = name_at(tokens)?;
     let (number, rest) = number_at(behind)?;
-    Ok((Statement::Begins(line, Head::Loop(name.copy(alloc)?, number)), rest))
+    Ok((
+        Statement::Begins(line, Head::Loop(name.copy(alloc)?, number)),
+        rest,
+    ))
 }
 
 /// What stands behind its first word.

@@ -1,4 +1,4 @@
-use Rattle.std.proofs.Common.{◌++◌, ◌≤◌, Some, length}
+use Rattle.std.proofs.Common.{◌++◌, Some, length}
 use Rattle.name_tables.specs.Declarations.{function_number}
 use Rattle.hint_texts.specs.Code.Reading.{part_at, parts_of}
 use Rattle.hint_texts.proofs.Turns.{IsLeft}

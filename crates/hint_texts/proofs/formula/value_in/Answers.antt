@@ -1,4 +1,4 @@
-use Rattle.std.proofs.Common.{Option, subst, None}
+use Rattle.std.proofs.Common.{Option, subst}
 use Rattle.std.specs.Prelude.{MatchOption}
 use Rattle.formula_texts.specs.declared.value.Value.{Value}
 use Rattle.formula_texts.specs.Texts.{AreOf}

@@ -1,4 +1,4 @@
-use Rattle.std.proofs.Common.{◌++◌, ◌≤◌, length}
+use Rattle.std.proofs.Common.{◌++◌, length}
 use Rattle.name_tables.specs.Declarations.{function_number}
 use Rattle.hint_texts.specs.Code.Reading.{statement_at, statements_in, grouped, items_of}
 use Rattle.hint_texts.proofs.Turns.{IsLeft}

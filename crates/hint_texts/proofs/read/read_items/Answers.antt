@@ -1,4 +1,4 @@
-use Rattle.std.proofs.Common.{◌≡◌, ◌≤◌, length, refl, sym, ◌∙◌, arith, inr}
+use Rattle.std.proofs.Common.{◌≤◌, length, refl, sym, ◌∙◌, arith, inr}
 use Rattle.std.proofs.lemmas.Bool.Decides.{nat_tests}
 use Rattle.name_tables.specs.Declarations.{function_number}
 use Rattle.hint_texts.proofs.FrontLaws.{some_is}

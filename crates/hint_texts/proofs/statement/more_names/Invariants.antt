@@ -1,4 +1,4 @@
-use Rattle.std.proofs.Common.{◌++◌, ◌≤◌, Some, length}
+use Rattle.std.proofs.Common.{◌++◌, Some, length}
 use Rattle.hint_texts.specs.Code.Reading.{next_at, more_names}
 use Rattle.hint_texts.proofs.Turns.{IsLeft}
 use Rattle.hint_texts.proofs.statement.more_names.Given as goal
