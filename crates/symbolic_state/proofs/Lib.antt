@@ -1,0 +1,5 @@
+pub mod StepLaws
+pub mod BindingLaws
+pub mod FinishedLaws
+pub mod ValueLaws
+pub mod KindLaws

@@ -1,0 +1,4 @@
+-- What the code's tables stand for, and all steps at once.
+pub mod Bindings
+pub mod Joined
+pub mod Values

@@ -1,0 +1,12 @@
+//! What stands round a condition while a body is gone through from the front: what its names stand for, and what is
+//! given. Each condition is finished in time linear in its size.
+#![tactic(auto)]
+
+mod bindings;
+mod changes;
+pub mod laws;
+mod state;
+mod step;
+
+pub use state::SymbolicState;
+pub use step::Step;

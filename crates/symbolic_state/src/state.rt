@@ -1,0 +1,207 @@
+ghost use Rattle.std.specs.Prelude.{◌≡◌, List, [], ◌∷◌, map, length, All, IfOk, OnOk};
+ghost use Rattle.terms.specs.declared.fact.Fact.TheVariants.{Plain};
+ghost use Rattle.terms.specs.Replacing.{replaced_fact};
+ghost use Rattle.weakest_preconditions.specs.Binding.{BindsBound};
+ghost use Rattle.weakest_preconditions.specs.Changing.{change, setting, storing, renewing, passing, returning, entering};
+ghost use Rattle.weakest_preconditions.specs.EntryNames.{result_base};
+ghost use Rattle.symbolic_state.specs.declared.step.Step.TheVariants as step;
+ghost use Rattle.symbolic_state.specs.Steps.{finished, assumed, outermost, owed, without_sorts, IsMadeWithin};
+
+use crate::Step;
+use crate::changes::{current, entering, one_array, one_number, passing, renewing, stored};
+use c_lang::{Func, Name, Program};
+use name_tables::ProgramNames;
+use std::alloc::{AllocError, Global};
+use std::marker::Model;
+use terms::{Changes, Fact, Form, Label, Sequent, Sym, Term};
+
+/// What stands round a condition, which contracts see as steps, the innermost first. Every method that changes it
+/// adds steps, but for `cut_back`. The only error is want of memory, and after it nothing is known of the steps.
+pub struct SymbolicState {
+    steps: Vec<Step>,
+}
+
+// By hand, so that a proof has one step for each that is dropped.
+impl Drop for SymbolicState {
+    fn drop(self) {
+        let SymbolicState { steps: _steps } = self;
+    }
+}
+
+impl Model for SymbolicState {
+    ghost use Rattle.std.specs.Prelude.{List, reverse};
+    ghost use Rattle.std.specs.Coded.{coded_list, codes};
+    ghost use Rattle.symbolic_state.specs.declared.step.Step.{Step};
+    ghost use Rattle.symbolic_state.specs.contracts.step.Step as the_step;
+
+    ghost Value = { List Step };
+
+    ghost coded = { Prim.hlevel (codes, the_step.the_row.coded) };
+
+    ghost view = { λ s. reverse s.steps.items };
+}
+
+impl SymbolicState {
+    /// Nothing stands round a condition. It takes no memory.
+    pub fn new(alloc: Global) -> SymbolicState
+        ensures { result ≡ [] }
+    {
+        SymbolicState {
+            steps: Vec::new(alloc),
+        }
+    }
+
+    // Adds a step in which names are replaced.
+    fn replace(&mut self, changes: Changes) -> Result<(), AllocError>
+        ensures { OnOk result (self.new ≡ step.Replaces changes ∷ self.old) }
+    {
+        self.steps.push(Step::Replaces(changes))?;
+        Ok(())
+    }
+
+    // Adds a step in which a fact is given.
+    fn given(&mut self, fact: Fact) -> Result<(), AllocError>
+        requires { BindsBound fact }
+        ensures { OnOk result (self.new ≡ step.Assumes fact ∷ self.old) }
+    {
+        self.steps.push(Step::Assumes(fact))?;
+        Ok(())
+    }
+
+    /// From here on the name's current value is the given one. The only error is want of memory.
+    pub fn set(&mut self, alloc: Global, name: &Name, value: &Term) -> Result<(), AllocError>
+        ensures { OnOk result (self.new ≡ step.Replaces (setting name.now value.now) ∷ self.old) }
+    {
+        let name = current(alloc, name)?;
+        self.replace(one_number(alloc, name, value)?)
+    }
+
+    /// From here on the result of a function has this value. The only error is want of memory.
+    pub fn set_result(&mut self, alloc: Global, value: &Term) -> Result<(), AllocError>
+        ensures { OnOk result (self.new ≡ step.Replaces (setting result_base value.now) ∷ self.old) }
+    {
+        let name = Name::new(alloc, b"$r")?;
+        self.replace(one_number(
+            alloc,
+            Sym {
+                base: name,
+                count: 0,
+            },
+            value,
+        )?)
+    }
+
+    /// From here on the current array has the value at the index. The only error is want of memory.
+    pub fn store(
+        &mut self,
+        alloc: Global,
+        array: &Name,
+        index: &Term,
+        value: &Term,
+    ) -> Result<(), AllocError>
+        ensures { OnOk result (self.new ≡ step.Replaces (storing array.now index.now value.now) ∷ self.old) }
+    {
+        let stored = stored(alloc, array, index, value)?;
+        self.replace(one_array(alloc, current(alloc, array)?, stored)?)
+    }
+
+    /// From here on each of these names stands for the current value of its base. The only error is want of memory.
+    pub fn renew(&mut self, alloc: Global, fresh: &[Sym]) -> Result<(), AllocError>
+        ensures { OnOk result (self.new ≡ step.Replaces (renewing fresh.now) ∷ self.old) }
+    {
+        self.replace(renewing(alloc, fresh)?)
+    }
+
+    /// The function's body begins: each global and each parameter at entry is what it is now. The only error is want
+    /// of memory.
+    pub fn enter(&mut self, alloc: Global, program: &Program, func: &Func) -> Result<(), AllocError>
+        ensures { OnOk result (self.new
+            ≡ step.Replaces (entering (map (λ g. g.name) program.now.globals) (map (λ p. p.1) func.now.params)) ∷ self.old) }
+    {
+        self.replace(entering(alloc, program, func)?)
+    }
+
+    /// From here on the parameters at entry have these values. The only error is want of memory.
+    pub fn pass(&mut self, alloc: Global, args: &[Term]) -> Result<(), AllocError>
+        ensures { OnOk result (self.new ≡ step.Replaces (passing args.now) ∷ self.old) }
+    {
+        self.replace(passing(alloc, args)?)
+    }
+
+    /// The fact is given. The only error is want of memory.
+    pub fn assume(&mut self, alloc: Global, fact: &Fact) -> Result<(), AllocError>
+        requires { BindsBound fact.now }
+        ensures { OnOk result (self.new ≡ step.Assumes fact.now ∷ self.old) }
+    {
+        self.given(fact.copy(alloc)?)
+    }
+
+    /// The facts are given, one after the other. The only error is want of memory.
+    pub fn assume_all(&mut self, alloc: Global, facts: &[Fact]) -> Result<(), AllocError>
+        requires { All BindsBound facts.now }
+        ensures { OnOk result (self.new ≡ assumed facts.now self.old) }
+    {
+        for fact in facts {
+            self.assume(alloc, fact)?;
+        }
+        Ok(())
+    }
+
+    /// The form is given. The only error is want of memory.
+    pub fn assume_form(&mut self, form: Form) -> Result<(), AllocError>
+        ensures { OnOk result (self.new ≡ step.Assumes (Plain form) ∷ self.old) }
+    {
+        self.given(Fact::Plain(form))
+    }
+
+    /// A call has come to its end: what its function promises is given, one fact after the other, where its
+    /// parameters at entry had these values, and its result and its cells have fresh names. The names of results and
+    /// cells change by `renew`. The only error is want of memory.
+    pub fn promise(
+        &mut self,
+        alloc: Global,
+        program: &ProgramNames,
+        args: &[Term],
+        outcome: &[Sym],
+        cells: &[Sym],
+        promises: &[Fact],
+    ) -> Result<(), AllocError>
+        requires { All BindsBound promises.now }
+        ensures { OnOk result (self.new ≡ assumed
+            (map (replaced_fact (change (returning (map (λ g. g.name) program.now.globals) args.now outcome.now cells.now))) promises.now)
+            self.old) }
+    {
+        Err(AllocError)
+    }
+
+    /// How many steps there are. It takes no memory.
+    pub fn mark(&self) -> usize
+        ensures { result ≡ length self.now }
+    {
+        self.steps.len()
+    }
+
+    /// Takes back all steps but the first `mark` that were made. It takes no memory.
+    #[tactic(auto, using(crate::proofs::StepLaws::first_outermost))]
+    pub fn cut_back(&mut self, mark: usize)
+        ensures { self.new ≡ outermost mark self.old }
+    {
+        self.steps.truncate(mark);
+    }
+
+    /// The goal under these hypotheses, with all that stands round it, as a sequent without sorts; or nothing where
+    /// it is larger than `room`, which is known as soon as so much of it is made. The only error is want of memory.
+    pub fn finish(
+        &self,
+        alloc: Global,
+        hyps: &[Form],
+        goal: &Fact,
+        label: Label,
+        room: u64,
+    ) -> Result<Option<Sequent>, AllocError>
+        requires { BindsBound goal.now }
+        ensures { IfOk result (λ made. IsMadeWithin room (without_sorts (finished self.now (owed hyps.now goal.now label))) made) }
+    {
+        Err(AllocError)
+    }
+}
