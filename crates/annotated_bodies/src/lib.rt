@@ -4,6 +4,7 @@
 
 mod annotated;
 mod context;
+mod sets;
 
 pub use annotated::Annotated;
 pub use context::Context;
