@@ -1,6 +1,5 @@
 -- The code's annotated statements as plain data, on which definitions go by cases.
-use Rattle.std.specs.Prelude.{ℕ, List, [], ◌∷◌}
-use Rattle.std.specs.Borrow.{Bor}
+use Rattle.std.specs.Prelude.{ℕ, List, [], ◌∷◌, map}
 use Rattle.c_lang.specs.Trees.{Statement, Statements, statement_of}
 use Rattle.c_lang.specs.Trees as tree
 use Rattle.terms.specs.declared.sym.Sym.{Sym}
@@ -56,3 +55,9 @@ abbrev mutual
   pub body_in : Notes → Body
   body_in end = none
   body_in (next t ts) = more (annotated_in t) (body_in ts)
+
+abbrev pub seen_annotated : code.Annotated → Annotated
+seen_annotated a = annotated_in (noted_of a)
+
+abbrev pub seen_body : List code.Annotated → Body
+seen_body all = body_in (notes (map noted_of all))

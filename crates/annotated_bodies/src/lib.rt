@@ -3,7 +3,9 @@
 #![tactic(auto)]
 
 mod annotated;
+mod annotating;
 mod context;
+mod place;
 mod sets;
 
 pub use annotated::Annotated;
