@@ -4,7 +4,7 @@ use Rattle.std.proofs.lemmas.List.{at_drop_more, at_drop_all}
 use Rattle.c_lang.specs.Names.{Bytes}
 use Rattle.c_lang.specs.Trees.{statement_of, statements}
 use Rattle.c_lang.specs.declared.stmt.Stmt.{Stmt}
-use Rattle.weakest_preconditions.specs.Context.{Context}
+use Rattle.loop_invariants.specs.Context.{Context}
 use Rattle.weakest_preconditions.specs.Annotated.{Body, none, more}
 use Rattle.weakest_preconditions.specs.Annotating.{Place, annotated, annotated_all, past, past_all}
 use Rattle.annotated_bodies.specs.declared.annotated.Annotated as code

@@ -1,12 +1,13 @@
 -- The table of numbers behind a statement that gives fresh names.
-use Rattle.std.proofs.Common.{◌≡◌, ℕ, suc, Bool, true, false, if◌then◌else◌, ◌||◌, List, [], ◌∷◌, map, Option, Some, None, unwrap_or, refl, sym, ap, ◌∙◌}
+use Rattle.std.proofs.Common.{◌≡◌, ℕ, suc, Bool, true, false, if◌then◌else◌, ◌||◌, List, [], ◌∷◌, map, Option, Some, unwrap_or, refl, sym, ap, ◌∙◌}
 use Rattle.std.specs.Str.{bytes_eq}
 use Rattle.std.proofs.lemmas.Slice.Eq.{bytes_eq-Decides}
 use Rattle.c_lang.specs.Names.{Bytes}
 use Rattle.name_tables.specs.declared.table.NameTable.{NameTable}
 use Rattle.name_tables.specs.Tables.{found}
 use Rattle.terms.specs.declared.sym.Sym.{Sym}
-use Rattle.weakest_preconditions.specs.Annotating.{Place, is_among, renewed}
+use Rattle.weakest_preconditions.specs.Annotating.{Place, renewed}
+use Rattle.loop_invariants.specs.SetNames.{is_among}
 use Rattle.annotated_bodies.specs.Places.{count_in}
 use Rattle.annotated_bodies.specs.Code.Given.{numbered, last_given}
 

@@ -3,8 +3,8 @@ use Rattle.std.specs.Prelude.{List, map}
 use Rattle.std.specs.Borrow.{Bor}
 use Rattle.c_lang.specs.Names.{Bytes}
 use Rattle.c_lang.specs.declared.program.Program.{Program}
-use Rattle.loop_invariants.specs.declared.hints.Hints.{Hints}
-use Rattle.weakest_preconditions.specs.Context.{Context, context_of}
+use Rattle.loop_invariants.specs.Hints.{Hints}
+use Rattle.loop_invariants.specs.Context.{Context, context_of}
 
 abbrev pub Sources : Type 0
 Sources = Program × Hints

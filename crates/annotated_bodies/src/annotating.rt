@@ -3,6 +3,7 @@
 ghost use Rattle.std.specs.Prelude.{◌≡◌, suc, ◌++◌, true, if◌then◌else◌, [], IfOk, OnOk, map};
 ghost use Rattle.c_lang.specs.Trees.{statement_of, statements};
 ghost use Rattle.weakest_preconditions.specs.Annotated.{none};
+ghost use Rattle.loop_invariants.specs.SetNames as set_names;
 ghost use Rattle.weakest_preconditions.specs.Annotating as spec;
 ghost use Rattle.annotated_bodies.specs.Places.{seen_place};
 ghost use Rattle.annotated_bodies.specs.Seen.{seen_annotated, annotated_by, seen_body};
@@ -58,8 +59,8 @@ fn setting<'c>(
     dest: &'c Dest,
 ) -> Result<Annotated<'c>, AllocError>
     ensures made { IfOk result (λ a. seen_annotated a
-        ≡ annotated_by (statement_of stmt.entry.now) none none [] [] (spec.fresh (seen_place place.old) (spec.set_by dest.entry.now))) }
-    ensures place { OnOk result (seen_place place.new ≡ spec.renewed (spec.set_by dest.entry.now) (seen_place place.old)) }
+        ≡ annotated_by (statement_of stmt.entry.now) none none [] [] (spec.fresh (seen_place place.old) (set_names.set_by dest.entry.now))) }
+    ensures place { OnOk result (seen_place place.new ≡ spec.renewed (set_names.set_by dest.entry.now) (seen_place place.old)) }
 {
     let mut bases = Vec::new(alloc);
     add_dest(&mut bases, dest)?;
@@ -125,9 +126,9 @@ fn call_by<'c>(
 ) -> Result<Annotated<'c>, AllocError>
     ensures made { IfOk result (λ a. seen_annotated a ≡ annotated_by (statement_of stmt.entry.now) none none []
         (spec.fresh (seen_place place.old) (spec.result_of dest.entry.now true))
-        (spec.fresh (seen_place place.old) (spec.reached_assigns (context_in context.entry.now) arity))) }
+        (spec.fresh (seen_place place.old) (set_names.reached_assigns (context_in context.entry.now) arity))) }
     ensures place { OnOk result (seen_place place.new ≡ spec.renewed
-        (spec.result_of dest.entry.now true ++ spec.reached_assigns (context_in context.entry.now) arity)
+        (spec.result_of dest.entry.now true ++ set_names.reached_assigns (context_in context.entry.now) arity)
         (seen_place place.old)) }
 {
     let mut bases = result_base(alloc, context, dest, true)?;
@@ -188,7 +189,7 @@ fn while_loop<'c>(
         none
         ((context_in context.entry.now).invariants func.now (suc (seen_place place.old).loops))
         []
-        (spec.fresh (seen_place place.old) (spec.sets_in (context_in context.entry.now) (statements (map statement_of turn.entry.now))))) }
+        (spec.fresh (seen_place place.old) (set_names.sets_in (context_in context.entry.now) (statements (map statement_of turn.entry.now))))) }
     ensures place { OnOk result (seen_place place.new ≡ spec.past_all (context_in context.entry.now) (statements (map statement_of turn.entry.now))
         (spec.inside (context_in context.entry.now) (statements (map statement_of turn.entry.now)) (seen_place place.old))) }
 {

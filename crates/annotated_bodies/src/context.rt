@@ -1,7 +1,7 @@
 ghost use Rattle.std.specs.Prelude.{◌≡◌, ◌==◌, ◌++◌, IfOk, OnOk, map, flat_map, filter, length};
 ghost use Rattle.expression_conditions.specs.Candidates.{candidates};
-ghost use Rattle.weakest_preconditions.specs.Annotating.{reached_assigns};
-ghost use Rattle.weakest_preconditions.specs.EntryNames as spec;
+ghost use Rattle.loop_invariants.specs.SetNames.{reached_assigns};
+ghost use Rattle.loop_invariants.specs.EntryNames as spec;
 ghost use Rattle.annotated_bodies.specs.Sources.{context_in, names_in};
 
 use c_lang::{Func, GlobalVar, Name};
@@ -37,7 +37,7 @@ impl<'p> Model for Context<'p> {
     ghost use Rattle.c_lang.specs.contracts.program.Program as the_program;
     ghost use Rattle.loop_invariants.specs.contracts.hints.Hints as the_hints;
     ghost use Rattle.expression_conditions.specs.Candidates.{value_functions};
-    ghost use Rattle.weakest_preconditions.specs.EntryNames.{result_base};
+    ghost use Rattle.loop_invariants.specs.EntryNames.{result_base};
     ghost use Rattle.annotated_bodies.specs.Sources.{Sources};
 
     ghost Value = { Sources };

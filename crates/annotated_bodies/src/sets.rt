@@ -2,6 +2,7 @@
 
 ghost use Rattle.std.specs.Prelude.{◌≡◌, ◌∷◌, [], ◌++◌, OnOk, map};
 ghost use Rattle.c_lang.specs.Trees.{statement_of, statements};
+ghost use Rattle.loop_invariants.specs.SetNames as set_names;
 ghost use Rattle.weakest_preconditions.specs.Annotating as spec;
 ghost use Rattle.annotated_bodies.specs.Sources.{context_in, names_in};
 
@@ -11,7 +12,7 @@ use std::alloc::{AllocError, Global};
 
 /// Adds the name into which a result goes, if there is one. The only error is want of memory.
 pub(crate) fn add_dest<'c>(out: &mut Vec<&'c Name>, dest: &'c Dest) -> Result<(), AllocError>
-    ensures { OnOk result (names_in out.new.items ≡ names_in out.old.items ++ spec.set_by dest.entry.now) }
+    ensures { OnOk result (names_in out.new.items ≡ names_in out.old.items ++ set_names.set_by dest.entry.now) }
 {
     match dest {
         Dest::Nowhere => Ok(()),
@@ -34,7 +35,7 @@ fn add_call<'c>(
     callee: &Name,
 ) -> Result<(), AllocError>
     ensures { OnOk result (names_in out.new.items
-        ≡ names_in out.old.items ++ (spec.set_by dest.entry.now ++ (context_in context.entry.now).assigns callee.now)) }
+        ≡ names_in out.old.items ++ (set_names.set_by dest.entry.now ++ (context_in context.entry.now).assigns callee.now)) }
 {
     add_dest(out, dest)?;
     context.add_assigns(out, callee)
@@ -48,7 +49,7 @@ fn add_call_by<'c>(
     arity: usize,
 ) -> Result<(), AllocError>
     ensures { OnOk result (names_in out.new.items
-        ≡ names_in out.old.items ++ (spec.set_by dest.entry.now ++ spec.reached_assigns (context_in context.entry.now) arity)) }
+        ≡ names_in out.old.items ++ (set_names.set_by dest.entry.now ++ set_names.reached_assigns (context_in context.entry.now) arity)) }
 {
     add_dest(out, dest)?;
     context.add_reached_assigns(alloc, out, arity)
@@ -63,8 +64,8 @@ fn add_sets_of_two<'c>(
     second: &'c [Stmt],
 ) -> Result<(), AllocError>
     ensures { OnOk result (names_in out.new.items ≡ names_in out.old.items
-        ++ (spec.sets_in (context_in context.entry.now) (statements (map statement_of first.entry.now))
-        ++ spec.sets_in (context_in context.entry.now) (statements (map statement_of second.entry.now)))) }
+        ++ (set_names.sets_in (context_in context.entry.now) (statements (map statement_of first.entry.now))
+        ++ set_names.sets_in (context_in context.entry.now) (statements (map statement_of second.entry.now)))) }
 {
     add_sets_in(alloc, context, out, first)?;
     add_sets_in(alloc, context, out, second)
@@ -79,7 +80,7 @@ fn add_sets<'c>(
     stmt: &'c Stmt,
 ) -> Result<(), AllocError>
     ensures { OnOk result (names_in out.new.items
-        ≡ names_in out.old.items ++ spec.sets (context_in context.entry.now) (statement_of stmt.entry.now)) }
+        ≡ names_in out.old.items ++ set_names.sets (context_in context.entry.now) (statement_of stmt.entry.now)) }
 {
     match stmt {
         Stmt::Skip { .. } => Ok(()),
@@ -113,7 +114,7 @@ pub(crate) fn add_sets_in<'c>(
     stmts: &'c [Stmt],
 ) -> Result<(), AllocError>
     ensures { OnOk result (names_in out.new.items ≡ names_in out.old.items
-        ++ spec.sets_in (context_in context.entry.now) (statements (map statement_of stmts.entry.now))) }
+        ++ set_names.sets_in (context_in context.entry.now) (statements (map statement_of stmts.entry.now))) }
 {
     for stmt in stmts {
         add_sets(alloc, context, out, stmt)?;

@@ -1,7 +1,7 @@
 //! What finished conditions are, all steps taken together. The functions do nothing: each contract is a law.
 ghost use Rattle.std.specs.Prelude.{◌≡◌, ℕ, List};
 ghost use Rattle.c_lang.specs.Names.{Bytes};
-ghost use Rattle.weakest_preconditions.specs.Binding.{BindsBound};
+ghost use Rattle.loop_invariants.specs.Binding.{BindsBound};
 ghost use Rattle.weakest_preconditions.specs.Wp.{Condition};
 ghost use Rattle.symbolic_state.specs.declared.step.Step.{Step};
 ghost use Rattle.symbolic_state.specs.declared.bindings.Binding.{Binding};
