@@ -1,5 +1,5 @@
 -- What is found of the values that names got, as they change.
-use Rattle.std.proofs.Common.{◌≡◌, ℕ, zero, suc, ◌+◌, ◌-◌, ◌<◌, ◌≤◌, Bool, true, false, cond, if◌then◌else◌, nat_eq, nat_lt, List, [], ◌∷◌, ◌++◌, length, take, slice_index_or, Option, Some, None, Vec, Global, refl, sym, ap, ap₂, ◌∙◌, arith}
+use Rattle.std.proofs.Common.{◌≡◌, ℕ, zero, suc, ◌+◌, ◌-◌, ◌<◌, Bool, true, false, cond, if◌then◌else◌, nat_eq, nat_lt, List, [], ◌∷◌, ◌++◌, length, take, slice_index_or, Option, Some, None, Vec, Global, refl, sym, ap, ◌∙◌, arith}
 use Rattle.std.specs.Map.{lookup, set_value}
 use Rattle.std.specs.List.{AllWithin}
 use Rattle.std.specs.Str.{bytes_eq}
@@ -9,7 +9,7 @@ use Rattle.std.proofs.lemmas.Slice.Eq.{bytes_eq-Decides}
 use Rattle.indexmap.specs.IndexMap.{insert_entry}
 use Rattle.c_lang.specs.Names.{Bytes}
 use Rattle.symbolic_state.specs.declared.bindings.Binding.{Binding}
-use Rattle.symbolic_state.specs.Code.Bindings.{items_or_none, ends_at, front, bound, unbound, later, latest}
+use Rattle.symbolic_state.specs.Code.Bindings.{items_or_none, ends_at, front, later, latest}
 
 -- ---- lists of values
 

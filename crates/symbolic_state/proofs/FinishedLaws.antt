@@ -1,7 +1,6 @@
 -- A finished condition, by the one change and the facts that all steps come to.
 use Rattle.std.proofs.Common.{◌≡◌, Bool, true, false, if◌then◌else◌, List, [], ◌∷◌, ◌++◌, map, refl, sym, ap, ap₂, ◌∙◌, subst, append_assoc}
 use Rattle.terms.specs.declared.sym.Sym.{Sym}
-use Rattle.terms.specs.declared.changes.Changes.{Changes}
 use Rattle.terms.specs.declared.fact.Fact.{Fact}
 use Rattle.terms.specs.declared.fact.Fact.TheVariants as fact
 use Rattle.terms.specs.Symbols.{same_sym}

@@ -1,4 +1,4 @@
-use Rattle.std.proofs.Common.{◌≡◌, false, suc, ◌-◌, nat_lt, List, length, arith, rules, sym, subst}
+use Rattle.std.proofs.Common.{◌-◌, nat_lt, length, arith, rules, sym, subst}
 use Rattle.std.specs.List.{AllWithin}
 use Rattle.std.proofs.lemmas.List.Sorted.{IsPartitionPoint-from_clause, IsPartitionedBy-ltb}
 use Rattle.symbolic_state.proofs.BindingLaws.{IsLate, latest_none, latest_at}

@@ -1,6 +1,6 @@
-use Rattle.std.proofs.Common.{◌≡◌, rules, sym, ap, subst, ◌∙◌}
+use Rattle.std.proofs.Common.{rules}
 use Rattle.symbolic_state.specs.Code.Bindings.{bound}
-use Rattle.symbolic_state.proofs.BindingLaws.{values-inserted, values-written}
+use Rattle.symbolic_state.proofs.BindingLaws.{values-inserted}
 use Rattle.symbolic_state.proofs.bindings.Bindings.bind.Goals as goal
 
 pub returns-in_ok-insert-in-None : goal.returns-in_ok-insert-in-None
