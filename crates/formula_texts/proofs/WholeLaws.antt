@@ -7,25 +7,25 @@ use Rattle.formula_texts.specs.declared.value.Value.{Value}
 use Rattle.formula_texts.specs.declared.value.Value.TheVariants as value
 use Rattle.formula_texts.specs.Tokens.{AreTokens}
 use Rattle.formula_texts.specs.Grammar.{◌>>=◌, term_in, form_in}
-use Rattle.formula_texts.specs.Texts.{IsText, IsFormText, IsTermText, IsNameText}
+use Rattle.formula_texts.specs.Texts.{bracket_limit, operator_limit, IsText, IsFormText, IsTermText, IsNameText}
 use Rattle.formula_texts.specs.Code.Lexing.{tokens_in}
-use Rattle.formula_texts.specs.Code.Reading.{value_in, name_in}
-use Rattle.formula_texts.specs.Code.Whole.{form_of, term_of, name_of}
+use Rattle.formula_texts.specs.Code.Reading.{name_in}
+use Rattle.formula_texts.specs.Code.Whole.{text_value, form_of, term_of, name_of}
 use Rattle.formula_texts.proofs.OperatorLaws.{bind_some}
 use Rattle.formula_texts.proofs.LexLaws.{lexed_again, lexed_is}
 use Rattle.formula_texts.proofs.TokenLaws.{value_again, value_is, name_again, name_is}
 
 -- ---- forms and terms
 
-value_read : (text : Bytes) (x : Value) → IsText text x → (tokens_in text >>= value_in) ≡ Some x
+value_read : (text : Bytes) (x : Value) → IsText text x → (tokens_in text >>= text_value) ≡ Some x
 value_read text x h =
     let lexed = lexed_again text _ h.tokens (length text) (omega arith) in
-    ap (λ o. o >>= value_in) lexed ∙ value_again _ x (record { tree = h.tree; tokens = refl; grouped = h.grouped; small = h.small; value_is = h.value_is })
+    ap (λ o. o >>= text_value) lexed ∙ value_again bracket_limit operator_limit _ x (record { tree = h.tree; tokens = refl; grouped = h.grouped; small = h.small; value_is = h.value_is })
 
-value_text : (text : Bytes) (x : Value) → (tokens_in text >>= value_in) ≡ Some x → IsText text x
+value_text : (text : Bytes) (x : Value) → (tokens_in text >>= text_value) ≡ Some x → IsText text x
 value_text text x e =
-    let a = bind_some (tokens_in text) value_in x e in
-    let is = value_is a.0 x a.2 in
+    let a = bind_some (tokens_in text) text_value x e in
+    let is = value_is bracket_limit operator_limit a.0 x a.2 in
     record { tree = is.tree; tokens = subst (AreTokens text) (sym is.tokens) (lexed_is (length text) text a.0 a.1); grouped = is.grouped; small = is.small; value_is = is.value_is }
 
 form_value : (x : Value) (f : FormTree) → form_in x ≡ Some f → x ≡ value.Form f
@@ -42,19 +42,19 @@ assoc (Some x) f g = refl
 
 pub form_read : (text : Bytes) (f : FormTree) → form_of text ≡ Some f → IsFormText text f
 form_read text f e =
-    let a = bind_some (tokens_in text >>= value_in) form_in f (sym (assoc (tokens_in text) value_in form_in) ∙ e) in
+    let a = bind_some (tokens_in text >>= text_value) form_in f (sym (assoc (tokens_in text) text_value form_in) ∙ e) in
     value_text text (value.Form f) (a.1 ∙ ap (λ (x : Value). Some x) (form_value a.0 f a.2))
 
 pub form_again : (text : Bytes) (f : FormTree) → IsFormText text f → form_of text ≡ Some f
-form_again text f h = assoc (tokens_in text) value_in form_in ∙ ap (λ o. o >>= form_in) (value_read text (value.Form f) h)
+form_again text f h = assoc (tokens_in text) text_value form_in ∙ ap (λ o. o >>= form_in) (value_read text (value.Form f) h)
 
 pub term_read : (text : Bytes) (t : TermTree) → term_of text ≡ Some t → IsTermText text t
 term_read text t e =
-    let a = bind_some (tokens_in text >>= value_in) term_in t (sym (assoc (tokens_in text) value_in term_in) ∙ e) in
+    let a = bind_some (tokens_in text >>= text_value) term_in t (sym (assoc (tokens_in text) text_value term_in) ∙ e) in
     value_text text (value.Term t) (a.1 ∙ ap (λ (x : Value). Some x) (term_value a.0 t a.2))
 
 pub term_again : (text : Bytes) (t : TermTree) → IsTermText text t → term_of text ≡ Some t
-term_again text t h = assoc (tokens_in text) value_in term_in ∙ ap (λ o. o >>= term_in) (value_read text (value.Term t) h)
+term_again text t h = assoc (tokens_in text) text_value term_in ∙ ap (λ o. o >>= term_in) (value_read text (value.Term t) h)
 
 no_value : {A : Type 0} (o : Option A) (x : A) → o ≡ None → o ≡ Some x → ⊥
 no_value o x n s = let f = sym n ∙ s in cc

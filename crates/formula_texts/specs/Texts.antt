@@ -5,6 +5,7 @@ use Rattle.terms.specs.Trees.{TermTree, FormTree}
 use Rattle.formula_texts.specs.declared.size.Size.{Size}
 use Rattle.formula_texts.specs.declared.value.Value.{Value}
 use Rattle.formula_texts.specs.declared.value.Value.TheVariants as value
+use Rattle.formula_texts.specs.declared.token.Token.{Token}
 use Rattle.formula_texts.specs.Tokens.{AreTokens}
 use Rattle.formula_texts.specs.Grammar.{Tree, NameText, tokens_of, name_tokens, IsGrouped, size_of, value_of, sym_of}
 
@@ -16,16 +17,25 @@ bracket_limit = 1000
 abbrev pub operator_limit : ℕ
 operator_limit = 1001
 
-pub record IsSmall (s : Size) : Type 0 where
-  pub brackets : s.brackets ≤ bracket_limit
-  pub operators : s.operators ≤ operator_limit
+-- no more than b brackets and o operators
+pub record IsSmall (b o : ℕ) (s : Size) : Type 0 where
+  pub brackets : s.brackets ≤ b
+  pub operators : s.operators ≤ o
+
+-- the tokens are this form or term, with at most b brackets open and at most o operators along a path
+pub record AreOf (b o : ℕ) (ts : List Token) (x : Value) : Type 0 where
+  pub tree : Tree
+  pub tokens : tokens_of tree ≡ ts
+  pub grouped : IsGrouped tree
+  pub small : IsSmall b o (size_of tree)
+  pub value_is : value_of tree ≡ Some x
 
 -- the text is this form or term
 pub record IsText (text : List ℕ) (x : Value) : Type 0 where
   pub tree : Tree
   pub tokens : AreTokens text (tokens_of tree)
   pub grouped : IsGrouped tree
-  pub small : IsSmall (size_of tree)
+  pub small : IsSmall bracket_limit operator_limit (size_of tree)
   pub value_is : value_of tree ≡ Some x
 
 abbrev pub IsFormText : List ℕ → FormTree → Type 0

@@ -4,7 +4,9 @@ ghost use Rattle.std.specs.Prelude.{◌≡◌, ◌<◌, ℕ, List, All, true};
 ghost use Rattle.std.specs.Str.{IsUtf8};
 ghost use Rattle.terms.specs.Trees.{FormTree, TermTree};
 ghost use Rattle.terms.specs.declared.sym.Sym.{Sym};
-ghost use Rattle.formula_texts.specs.Texts.{IsFormText, IsNameText, IsTermText};
+ghost use Rattle.formula_texts.specs.declared.token.Token.{Token};
+ghost use Rattle.formula_texts.specs.declared.value.Value.{Value};
+ghost use Rattle.formula_texts.specs.Texts.{AreOf, IsFormText, IsNameText, IsTermText};
 ghost use Rattle.formula_texts.specs.Written.{form_text, has_form_text, has_name_text, has_term_text, name_text, term_text};
 
 /// No text is two forms, two terms or two names.
@@ -12,6 +14,12 @@ pub fn one_meaning()
     ensures form { (text : List ℕ) (some other : FormTree) → IsFormText text some → IsFormText text other → some ≡ other }
     ensures term { (text : List ℕ) (some other : TermTree) → IsTermText text some → IsTermText text other → some ≡ other }
     ensures name { (text : List ℕ) (some other : Sym) → IsNameText text some → IsNameText text other → some ≡ other }
+{}
+
+/// No tokens are two forms or terms.
+pub fn one_value()
+    ensures { (brackets operators : ℕ) (tokens : List Token) (some other : Value)
+        → AreOf brackets operators tokens some → AreOf brackets operators tokens other → some ≡ other }
 {}
 
 /// What has a text is read back from it.

@@ -91,7 +91,8 @@ pub fn is_taken(word: &[u8]) -> bool
     is_same(word, b"and") || is_same(word, b"or") || is_same(word, b"not") || is_same(word, b"null")
 }
 
-fn own_word(word: &[u8]) -> Option<Token>
+/// The token of a word that is no name.
+pub fn own_word(word: &[u8]) -> Option<Token>
     ensures { result ≡ words.found_in words.own_words word.now }
 {
     if is_same(word, b"and") {
@@ -186,7 +187,8 @@ fn count_token(run: &[u8]) -> Option<Token>
     }
 }
 
-fn pair_token(byte: u8, next: u8) -> Option<Token>
+/// A mark of two bytes.
+pub fn pair_token(byte: u8, next: u8) -> Option<Token>
     ensures value { result ≡ words.pair_token byte next }
     ensures next { IfSome result (λ _. next ≡ 61) }
 {

@@ -3,7 +3,8 @@
 ghost use Rattle.std.specs.Prelude.{◌≡◌, ◌≤◌, IfOk, MatchOption};
 ghost use Rattle.terms.specs.Trees.{FormTree, TermTree};
 ghost use Rattle.terms.specs.declared.sym.Sym.{Sym as SymTree};
-ghost use Rattle.formula_texts.specs.Texts.{IsFormText, IsNameText, IsTermText};
+ghost use Rattle.formula_texts.specs.Texts.{AreOf, IsFormText, IsNameText, IsTermText};
+ghost use Rattle.formula_texts.specs.declared.value.Value.{Value as ValueTree};
 ghost use Rattle.formula_texts.specs.Code.Reading as spec;
 ghost use Rattle.formula_texts.specs.Code.Reading.{Gives};
 ghost use Rattle.formula_texts.specs.Code.Whole as whole;
@@ -19,31 +20,56 @@ use crate::value::Value;
 use std::alloc::{AllocError, Global};
 use terms::{Form, Sym, Term};
 
-/// How many brackets may be open at once.
-const BRACKET_LIMIT: u32 = 1000;
+/// How far what is read may be nested: how many brackets may be open at once, and how many operators
+/// may stand along a path.
+#[derive(Clone, Copy, Debug)]
+pub struct Limits {
+    pub brackets: u16,
+    pub operators: u16,
+}
 
-/// How many operators may stand along a path.
-const OPERATOR_LIMIT: u32 = 1001;
+/// The limits of texts.
+const TEXT_LIMITS: Limits = Limits {
+    brackets: 1000,
+    operators: 1001,
+};
 
-/// No text within these limits is higher.
-const HEIGHT_LIMIT: u32 = 2002;
-
-fn is_small(size: Size) -> bool
-    ensures { result ≡ spec.is_small size }
+fn is_small(limits: Limits, size: Size) -> bool
+    ensures { result ≡ spec.is_small limits.brackets limits.operators size }
 {
-    size.brackets <= BRACKET_LIMIT && size.operators <= OPERATOR_LIMIT
+    size.brackets <= limits.brackets as u32 && size.operators <= limits.operators as u32
 }
 
 /// The form or term that all the tokens are.
 #[tactic(auto, unfolding(crate::specs::Code::Reading::value_in))]
-fn value_in(alloc: Global, tokens: &[Token]) -> Result<Value, Stop>
-    ensures { Gives (λ value. value) result (spec.value_in tokens.now) }
+fn value_in(alloc: Global, limits: Limits, tokens: &[Token]) -> Result<Value, Stop>
+    ensures { Gives (λ value. value) result (spec.value_in limits.brackets limits.operators tokens.now) }
 {
-    let found = expression(alloc, HEIGHT_LIMIT, 1, tokens)?;
-    if !found.rest.is_empty() || !is_small(found.size) {
+    let height = limits.brackets as u32 + limits.operators as u32 + 1;
+    let found = expression(alloc, height, 1, tokens)?;
+    if !found.rest.is_empty() || !is_small(limits, found.size) {
         return Err(Stop::NoText);
     }
     Ok(found.value)
+}
+
+/// The form or term that all the tokens are, within the limits; `None` where they are none. The only
+/// error is want of memory.
+#[tactic(auto, using(crate::proofs::TokenLaws::value_is))]
+pub fn read_tokens(
+    alloc: Global,
+    limits: Limits,
+    tokens: &[Token],
+) -> Result<Option<Value>, AllocError>
+    ensures { IfOk result (λ read. MatchOption read
+        ((value : ValueTree) → AreOf limits.brackets limits.operators tokens.now value → ⊥)
+        (λ value. AreOf limits.brackets limits.operators tokens.now value)) }
+{
+    match value_in(alloc, limits, tokens) {
+        Ok(value) => Ok(Some(value)),
+        Err(Stop::NoText) => Ok(None),
+        Err(Stop::NoMemory) => Err(AllocError),
+    }
 }
 
 /// The name that all the tokens are.
@@ -68,14 +94,14 @@ fn form_of(alloc: Global, text: &[u8]) -> Result<Form, Stop>
     ensures { Gives (λ form. form) result (whole.form_of text.now) }
 {
     let tokens = tokens_of(alloc, text)?;
-    form_in(value_in(alloc, tokens.as_slice())?)
+    form_in(value_in(alloc, TEXT_LIMITS, tokens.as_slice())?)
 }
 
 fn term_of(alloc: Global, text: &[u8]) -> Result<Term, Stop>
     ensures { Gives (λ term. term) result (whole.term_of text.now) }
 {
     let tokens = tokens_of(alloc, text)?;
-    term_in(value_in(alloc, tokens.as_slice())?)
+    term_in(value_in(alloc, TEXT_LIMITS, tokens.as_slice())?)
 }
 
 fn name_of(alloc: Global, text: &[u8]) -> Result<Sym, Stop>

@@ -1,1 +1,10 @@
+pub mod EntryNames
 pub mod Hints
+pub mod Binding
+pub mod Context
+pub mod SetNames
+pub mod Loops
+pub mod Clauses
+pub mod Assigned
+pub mod Fitting
+pub mod Code

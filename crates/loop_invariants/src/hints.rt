@@ -4,6 +4,7 @@ ghost use Rattle.loop_invariants.specs.Hints.{contract_of, invariants_of};
 
 use c_lang::Name;
 use sqlite_items::Items;
+use std::marker::Model;
 use terms::Fact;
 
 /// What a function asks of its callers, in `needs`, and promises them, in `promises`, and the globals
@@ -47,7 +48,7 @@ impl Drop for LoopInvariants {
 }
 
 /// The contracts of functions and the invariants of loops. Of several entries for one function or one
-/// loop the first counts.
+/// loop the first counts. A fact binds no number but the one of the base `$`.
 #[derive(Debug)]
 pub struct Hints {
     pub(crate) contracts: Items<(Name, Contract)>,
@@ -62,6 +63,22 @@ impl Drop for Hints {
             loops: _loops,
         } = self;
     }
+}
+
+impl Model for Hints {
+    ghost use Rattle.loop_invariants.specs.Hints.{Hints as AllHints, HintsBind};
+
+    ghost Value = { AllHints };
+
+    ghost use Rattle.std.specs.Coded.{codes};
+    ghost use Rattle.terms.specs.contracts.form.Form as form;
+    ghost use Rattle.terms.specs.contracts.form.Term as term;
+
+    ghost coded = { Prim.hlevel (codes, form.the_row.coded, term.the_row.coded) };
+
+    ghost view = { λ h. record { contracts = h.contracts; loops = h.loops } };
+
+    ghost invariant = { λ h. HintsBind (record { contracts = h.contracts; loops = h.loops }) };
 }
 
 impl Hints {

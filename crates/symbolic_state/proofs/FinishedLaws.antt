@@ -7,8 +7,8 @@ use Rattle.terms.specs.Symbols.{same_sym}
 use Rattle.terms.specs.Code.SymbolLaws.{same_sym-equal}
 use Rattle.terms.specs.Trees.{TermTree, number, name, plus, minus, times, divided, remainder, read, truth, ArrayTree, array, stored, FormTree, always, never, at_most, equal, denied, both, either}
 use Rattle.terms.specs.Replacing.{Change, below, replaced_term, replaced_array, replaced_form, replaced_fact}
-use Rattle.weakest_preconditions.specs.EntryNames.{bound}
-use Rattle.weakest_preconditions.specs.Binding.{BindsBound, KeepsBound}
+use Rattle.loop_invariants.specs.EntryNames.{bound}
+use Rattle.loop_invariants.specs.Binding.{BindsBound, KeepsBound}
 use Rattle.weakest_preconditions.specs.Changing.{change, composed, nothing}
 use Rattle.weakest_preconditions.specs.Wp.{Condition, changed, under}
 use Rattle.weakest_preconditions.proofs.Composed.{change_keeps, composed_keeps, fact_twice}

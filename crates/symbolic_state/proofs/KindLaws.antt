@@ -7,7 +7,7 @@ use Rattle.terms.specs.Symbols.{same_sym}
 use Rattle.terms.specs.Trees.{TermTree, name, ArrayTree, array}
 use Rattle.terms.specs.Replacing.{replaced_term, replaced_array}
 use Rattle.expression_conditions.specs.Meanings.{current}
-use Rattle.weakest_preconditions.specs.EntryNames.{bound}
+use Rattle.loop_invariants.specs.EntryNames.{bound}
 use Rattle.symbolic_state.specs.declared.step.Step.{Step}
 use Rattle.symbolic_state.specs.declared.step.Step.TheVariants as step
 use Rattle.symbolic_state.specs.declared.bindings.Binding.{Binding}

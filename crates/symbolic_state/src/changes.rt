@@ -3,7 +3,7 @@ ghost use Rattle.c_lang.specs.declared.program.GlobalVar.{GlobalVar};
 ghost use Rattle.terms.specs.Trees.{name, array, stored};
 ghost use Rattle.expression_conditions.specs.Meanings.{current};
 ghost use Rattle.weakest_preconditions.specs.Changing.{entry_values, passing, renewing, entering};
-ghost use Rattle.weakest_preconditions.specs.EntryNames.{parameter_at_entry, global_at_entry};
+ghost use Rattle.loop_invariants.specs.EntryNames.{parameter_at_entry, global_at_entry};
 
 use c_lang::{Func, GlobalVar, Kind, Name, Program};
 use itoa::Buffer;

@@ -7,7 +7,7 @@ ghost use Rattle.terms.specs.declared.node.NodeKind.TheVariants as kind;
 ghost use Rattle.terms.specs.Trees.{TermTree, ArrayTree};
 ghost use Rattle.terms.specs.Nodes.{node, term_nodes, array_nodes};
 ghost use Rattle.terms.specs.Replacing.{Change, replaced_term, replaced_array};
-ghost use Rattle.weakest_preconditions.specs.Binding.{BindsBound};
+ghost use Rattle.loop_invariants.specs.Binding.{BindsBound};
 ghost use Rattle.weakest_preconditions.specs.Wp.{Condition};
 ghost use Rattle.symbolic_state.specs.declared.step.Step.{Step};
 ghost use Rattle.symbolic_state.specs.declared.bindings.Binding.{Binding};

@@ -1,9 +1,9 @@
 ghost use Rattle.std.specs.Prelude.{◌≡◌, List, [], ◌∷◌, map, length, All, IfOk, OnOk};
 ghost use Rattle.terms.specs.declared.fact.Fact.TheVariants.{Plain};
 ghost use Rattle.terms.specs.Replacing.{replaced_fact};
-ghost use Rattle.weakest_preconditions.specs.Binding.{BindsBound};
+ghost use Rattle.loop_invariants.specs.Binding.{BindsBound};
 ghost use Rattle.weakest_preconditions.specs.Changing.{change, setting, storing, renewing, passing, returning, entering};
-ghost use Rattle.weakest_preconditions.specs.EntryNames.{result_base};
+ghost use Rattle.loop_invariants.specs.EntryNames.{result_base};
 ghost use Rattle.symbolic_state.specs.declared.step.Step.TheVariants as step;
 ghost use Rattle.symbolic_state.specs.Steps.{finished, assumed, outermost, owed, without_sorts, IsMadeWithin};
 

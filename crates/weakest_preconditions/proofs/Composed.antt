@@ -8,9 +8,9 @@ use Rattle.terms.specs.Symbols.{same_sym}
 use Rattle.terms.specs.Code.SymbolLaws.{same_sym-equal}
 use Rattle.terms.specs.Trees.{TermTree, number, name, plus, minus, times, divided, remainder, read, truth, ArrayTree, array, stored, FormTree, always, never, at_most, equal, denied, both, either}
 use Rattle.terms.specs.Replacing.{Change, below, replaced_term, replaced_array, replaced_form, replaced_fact}
-use Rattle.weakest_preconditions.specs.EntryNames.{bound}
+use Rattle.loop_invariants.specs.EntryNames.{bound}
 use Rattle.weakest_preconditions.specs.Changing.{change, composed}
-use Rattle.weakest_preconditions.specs.Binding.{BindsBound, KeepsBound}
+use Rattle.loop_invariants.specs.Binding.{BindsBound, KeepsBound}
 
 mutual
   pub term_twice : (a b : Change) (t : TermTree) → replaced_term a (replaced_term b t) ≡ replaced_term (composed a b) t

@@ -7,7 +7,7 @@ use Rattle.terms.specs.declared.fact.Fact.{Fact}
 use Rattle.terms.specs.Trees.{TermTree}
 use Rattle.expression_conditions.specs.Meanings.{val}
 use Rattle.expression_conditions.specs.Owed.{own, own_all, own_element}
-use Rattle.weakest_preconditions.specs.Context.{Context}
+use Rattle.loop_invariants.specs.Context.{Context}
 use Rattle.weakest_preconditions.specs.Annotated.{Annotated, aside, set, set_element, call, call_by, if_else, while_loop, break_loop, return_with, assert_that, input, output, choice, Body, none, more}
 use Rattle.terms.specs.Replacing.{replaced_fact}
 use Rattle.weakest_preconditions.specs.Changing.{change, renewing, returning}

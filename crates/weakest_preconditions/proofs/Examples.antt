@@ -13,8 +13,8 @@ use Rattle.terms.specs.declared.fact.Fact.TheVariants as fact
 use Rattle.terms.specs.declared.sequent.What.TheVariants as what
 use Rattle.terms.specs.Trees.{TermTree, number, name, plus, read, array, at_most, equal, denied, both}
 use Rattle.expression_conditions.specs.Meanings.{current}
-use Rattle.weakest_preconditions.specs.EntryNames.{bound, global_at_entry, result_base, parameter_at_entry}
-use Rattle.weakest_preconditions.specs.Context.{Context}
+use Rattle.loop_invariants.specs.EntryNames.{bound, global_at_entry, result_base, parameter_at_entry}
+use Rattle.loop_invariants.specs.Context.{Context}
 use Rattle.weakest_preconditions.specs.Annotating.{start, annotated_all}
 use Rattle.weakest_preconditions.specs.Wp.{Condition, wp_all}
 use Rattle.weakest_preconditions.specs.Conditions.{elements_are}

@@ -10,7 +10,7 @@ use Rattle.terms.specs.Replacing.{Change, replaced_fact}
 use Rattle.expression_conditions.specs.Meanings.{val, form, current}
 use Rattle.expression_conditions.specs.Owed.{own, own_all, own_element}
 use Rattle.weakest_preconditions.specs.Changing.{change, setting_at, storing, renewing, returning}
-use Rattle.weakest_preconditions.specs.Context.{Context}
+use Rattle.loop_invariants.specs.Context.{Context}
 use Rattle.weakest_preconditions.specs.Annotated.{Annotated, aside, set, set_element, call, call_by, if_else, while_loop, break_loop, return_with, assert_that, input, output, choice, Body, none, more}
 use Rattle.weakest_preconditions.specs.Wp.{Condition, changed, under, implies, all_imply, goal_of, goals, owed_at, promised, asked, returned, is_function, cells_of, wp, wp_all}
 use Rattle.weakest_preconditions.specs.Code.Walk.{Round, Maker, Makes, given, under_all, behind_call, in_loop, for_each, walk, walk_all}

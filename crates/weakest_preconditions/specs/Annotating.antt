@@ -1,15 +1,14 @@
 -- How a function's statements are annotated, in the order of the text.
-use Rattle.std.specs.Prelude.{ℕ, suc, Bool, true, if◌then◌else◌, List, [], ◌∷◌, ◌++◌, map, flat_map, length}
-use Rattle.std.specs.List.{list_any}
-use Rattle.std.specs.Str.{bytes_eq}
+use Rattle.std.specs.Prelude.{ℕ, suc, Bool, true, if◌then◌else◌, List, [], ◌∷◌, ◌++◌, map, length}
 use Rattle.c_lang.specs.Names.{Bytes}
 use Rattle.c_lang.specs.Trees.{Statement, Statements}
 use Rattle.c_lang.specs.Trees as tree
 use Rattle.c_lang.specs.declared.stmt.Dest.{Dest}
 use Rattle.c_lang.specs.declared.stmt.Dest.TheVariants as dest
 use Rattle.terms.specs.declared.sym.Sym.{Sym}
-use Rattle.weakest_preconditions.specs.EntryNames.{result_base}
-use Rattle.weakest_preconditions.specs.Context.{Context}
+use Rattle.loop_invariants.specs.EntryNames.{result_base}
+use Rattle.loop_invariants.specs.Context.{Context}
+use Rattle.loop_invariants.specs.SetNames.{is_among, set_by, sets_in, reached_assigns}
 use Rattle.weakest_preconditions.specs.Annotated.{Annotated, aside, set, set_element, call, call_by, if_else, while_loop, break_loop, return_with, assert_that, input, output, choice, Body, none, more}
 
 -- how many loops begin before a statement, and how many statements before it give a base a fresh name
@@ -20,9 +19,6 @@ pub record Place : Type 0 where
 abbrev pub start : Place
 start = record { loops = 0; counts = λ x. 0 }
 
-abbrev pub is_among : Bytes → List Bytes → Bool
-is_among x bases = list_any (bytes_eq x) bases
-
 -- behind a statement that gives these bases fresh names
 abbrev pub renewed : List Bytes → Place → Place
 renewed bases at = record at { counts = λ x. if is_among x bases then suc (at.counts x) else at.counts x }
@@ -31,44 +27,11 @@ renewed bases at = record at { counts = λ x. if is_among x bases then suc (at.c
 abbrev pub fresh : Place → List Bytes → List Sym
 fresh at bases = map (λ x. record { base = x; count = suc (at.counts x) }) bases
 
-abbrev pub set_by : Dest → List Bytes
-set_by dest.Nowhere = []
-set_by (dest.Into x) = x ∷ []
-set_by (dest.Fresh k x) = x ∷ []
-
 -- the base of a call's result; that of a function without result has none
 abbrev pub result_of : Dest → Bool → List Bytes
 result_of dest.Nowhere gives = if gives then result_base ∷ [] else []
 result_of (dest.Into x) gives = x ∷ []
 result_of (dest.Fresh k x) gives = x ∷ []
-
--- the cells that some function reached by a pointer may change
-abbrev pub reached_assigns : Context → ℕ → List Bytes
-reached_assigns c n = flat_map c.assigns (c.reached n)
-
--- what a statement sets
-abbrev mutual
-  pub sets : Context → Statement → List Bytes
-  sets c (tree.set p d e) = set_by d
-  sets c (tree.set_element p a i e) = a ∷ []
-  sets c (tree.call p d f es) = set_by d ++ c.assigns f
-  sets c (tree.call_by p d x es) = set_by d ++ reached_assigns c (length es)
-  sets c (tree.if_else p e a b) = sets_in c a ++ sets_in c b
-  sets c (tree.while_loop p e a) = sets_in c a
-  sets c (tree.input p d) = set_by d
-  sets c (tree.choice p d k) = set_by d
-  sets c (tree.skip p) = []
-  sets c (tree.break_loop p) = []
-  sets c (tree.return_with p e) = []
-  sets c (tree.assert_that p e) = []
-  sets c (tree.output p e) = []
-  sets c (tree.point p k) = []
-  sets c (tree.force p) = []
-  sets c (tree.pick p a b) = []
-
-  pub sets_in : Context → Statements → List Bytes
-  sets_in c tree.none = []
-  sets_in c (tree.more s ss) = sets c s ++ sets_in c ss
 
 -- the place at which the body of a loop begins
 abbrev pub inside : Context → Statements → Place → Place

@@ -8,7 +8,7 @@ use Rattle.terms.specs.declared.changes.Changes.{Changes}
 use Rattle.terms.specs.Trees.{TermTree, name, array, stored}
 use Rattle.terms.specs.Replacing.{Change, change_in, below, replaced_term, replaced_array}
 use Rattle.expression_conditions.specs.Meanings.{current}
-use Rattle.weakest_preconditions.specs.EntryNames.{parameter_at_entry, global_at_entry, result_base, bound}
+use Rattle.loop_invariants.specs.EntryNames.{parameter_at_entry, global_at_entry, result_base, bound}
 
 -- these names are replaced, all at once, but never the bound one
 abbrev pub change : Changes → Change

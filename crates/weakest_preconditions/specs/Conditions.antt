@@ -26,12 +26,12 @@ use Rattle.terms.specs.Trees.{number, name, read, array, equal}
 use Rattle.terms.specs.Names.{Occurrence, as_number, as_array, fact_names}
 use Rattle.terms.specs.Replacing.{replaced_fact}
 use Rattle.terms.specs.Sizes.{sequent_size}
-use Rattle.loop_invariants.specs.declared.hints.Hints.{Hints}
+use Rattle.loop_invariants.specs.Hints.{Hints}
 use Rattle.expression_conditions.specs.Meanings.{current}
 use Rattle.name_tables.specs.Declarations.{function_number}
-use Rattle.weakest_preconditions.specs.EntryNames.{bound}
+use Rattle.loop_invariants.specs.EntryNames.{bound}
 use Rattle.weakest_preconditions.specs.Changing.{change, entering}
-use Rattle.weakest_preconditions.specs.Context.{Context, context_of}
+use Rattle.loop_invariants.specs.Context.{Context, context_of}
 use Rattle.weakest_preconditions.specs.Annotating.{start, annotated_all}
 use Rattle.weakest_preconditions.specs.Annotated.{Body}
 use Rattle.weakest_preconditions.specs.Wp.{Condition, changed, all_imply, goal_of, goals, promised, wp_all}

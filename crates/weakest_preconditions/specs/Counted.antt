@@ -2,7 +2,7 @@
 use Rattle.std.specs.Prelude.{ℕ, suc, ◌+◌, List, [], ◌∷◌, length, Some, None}
 use Rattle.c_lang.specs.Names.{Bytes}
 use Rattle.expression_conditions.specs.Owed.{own, own_all, own_element}
-use Rattle.weakest_preconditions.specs.Context.{Context}
+use Rattle.loop_invariants.specs.Context.{Context}
 use Rattle.weakest_preconditions.specs.Annotated.{Annotated, aside, set, set_element, call, call_by, if_else, while_loop, break_loop, return_with, assert_that, input, output, choice, Body, none, more}
 
 -- those of a call of each function, and those that follow each, n in number

@@ -1,11 +1,8 @@
-pub mod EntryNames
 pub mod Changing
-pub mod Context
 pub mod Annotated
 pub mod Annotating
 pub mod Wp
 pub mod Sorts
 pub mod Conditions
 pub mod Counted
-pub mod Binding
 pub mod Code

@@ -13,10 +13,10 @@ use Rattle.terms.specs.Trees.{TermTree, number, name, FormTree, equal, denied}
 use Rattle.terms.specs.Replacing.{Change, replaced_fact}
 use Rattle.expression_conditions.specs.Meanings.{val, form, current}
 use Rattle.expression_conditions.specs.Owed.{Owed, own, own_all, own_element}
-use Rattle.weakest_preconditions.specs.EntryNames.{result_base}
+use Rattle.loop_invariants.specs.EntryNames.{result_base}
 use Rattle.weakest_preconditions.specs.Changing.{change, setting, setting_at, storing, renewing, passing, returning}
-use Rattle.weakest_preconditions.specs.Context.{Context}
-use Rattle.weakest_preconditions.specs.Annotating.{is_among}
+use Rattle.loop_invariants.specs.Context.{Context}
+use Rattle.loop_invariants.specs.SetNames.{is_among}
 use Rattle.weakest_preconditions.specs.Annotated.{Annotated, aside, set, set_element, call, call_by, if_else, while_loop, break_loop, return_with, assert_that, input, output, choice, Body, none, more}
 
 -- a condition without its sorts, which are told by its names

@@ -15,7 +15,6 @@ use Rattle.formula_texts.specs.declared.value.Value.TheVariants as value
 use Rattle.formula_texts.specs.declared.size.Size.{Size}
 use Rattle.formula_texts.specs.declared.stop.Stop.{Stop}
 use Rattle.formula_texts.specs.declared.stop.Stop.TheVariants as stop
-use Rattle.formula_texts.specs.Texts.{bracket_limit, operator_limit}
 use Rattle.formula_texts.specs.Grammar.{◌>>=◌, level, not_level, sign_level, leaf_size, grown, larger, term, of_terms, apply, element_of, truth_of, negated, denied, stored_of}
 
 -- a function answered what reading gives, unless memory ran out
@@ -244,19 +243,20 @@ readers (suc d) =
 
 -- ---- whole lists of tokens
 
--- no text within the limits is higher
-abbrev pub height_limit : ℕ
-height_limit = 2002
+-- nothing within the limits is higher
+abbrev pub height_limit : ℕ → ℕ → ℕ
+height_limit b o = b + o + 1
 
-abbrev pub is_small : Size → Bool
-is_small s = nat_le s.brackets bracket_limit && nat_le s.operators operator_limit
+abbrev pub is_small : ℕ → ℕ → Size → Bool
+is_small b o s = nat_le s.brackets b && nat_le s.operators o
 
-abbrev pub ended_by : Found → List Token → Option Value
-ended_by x [] = if is_small x.size then Some x.value else None
-ended_by x (t ∷ ts) = None
+abbrev pub ended_by : ℕ → ℕ → Found → List Token → Option Value
+ended_by b o x [] = if is_small b o x.size then Some x.value else None
+ended_by b o x (t ∷ ts) = None
 
-unfoldable pub value_in : List Token → Option Value
-value_in ts = (readers height_limit).value 1 ts >>= λ x. ended_by x x.rest
+-- the form or term that the tokens are, with at most b brackets and o operators
+unfoldable pub value_in : ℕ → ℕ → List Token → Option Value
+value_in b o ts = (readers (height_limit b o)).value 1 ts >>= λ x. ended_by b o x x.rest
 
 abbrev pub whole_name : Sym × List Token → Option Sym
 whole_name (x, []) = Some x

@@ -2,7 +2,7 @@
 use Rattle.std.specs.Prelude.{List, [], ◌∷◌, ◌++◌, map, ⊤}
 use Rattle.terms.specs.declared.fact.Fact.{Fact}
 use Rattle.terms.specs.Replacing.{Change, replaced_fact}
-use Rattle.weakest_preconditions.specs.Binding.{BindsBound}
+use Rattle.loop_invariants.specs.Binding.{BindsBound}
 use Rattle.weakest_preconditions.specs.Changing.{change, composed, nothing}
 use Rattle.weakest_preconditions.specs.Wp.{Condition}
 use Rattle.symbolic_state.specs.declared.step.Step.{Step}

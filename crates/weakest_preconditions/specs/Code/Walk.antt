@@ -11,7 +11,7 @@ use Rattle.terms.specs.Replacing.{Change, replaced_fact}
 use Rattle.expression_conditions.specs.Meanings.{val, form, current}
 use Rattle.expression_conditions.specs.Owed.{own, own_all, own_element}
 use Rattle.weakest_preconditions.specs.Changing.{change, setting_at, storing, renewing, returning}
-use Rattle.weakest_preconditions.specs.Context.{Context}
+use Rattle.loop_invariants.specs.Context.{Context}
 use Rattle.weakest_preconditions.specs.Annotated.{Annotated, aside, set, set_element, call, call_by, if_else, while_loop, break_loop, return_with, assert_that, input, output, choice, Body, none, more}
 use Rattle.weakest_preconditions.specs.Wp.{Condition, changed, under, goal_of, goals, owed_at, promised, asked, is_function, cells_of}
 

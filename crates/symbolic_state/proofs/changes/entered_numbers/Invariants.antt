@@ -2,7 +2,7 @@ use Rattle.std.proofs.Common.{◌≡◌, ◌++◌, map, drop}
 use Rattle.c_lang.specs.declared.program.GlobalVar.{GlobalVar}
 use Rattle.terms.specs.Trees.{name}
 use Rattle.expression_conditions.specs.Meanings.{current}
-use Rattle.weakest_preconditions.specs.EntryNames.{global_at_entry}
+use Rattle.loop_invariants.specs.EntryNames.{global_at_entry}
 use Rattle.symbolic_state.proofs.changes.entered_numbers.Given as goal
 
 -- the pairs so far and those to come

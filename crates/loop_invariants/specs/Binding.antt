@@ -4,7 +4,7 @@ use Rattle.terms.specs.declared.fact.Fact.{Fact}
 use Rattle.terms.specs.declared.fact.Fact.TheVariants as fact
 use Rattle.terms.specs.Trees.{name}
 use Rattle.terms.specs.Replacing.{Change}
-use Rattle.weakest_preconditions.specs.EntryNames.{bound}
+use Rattle.loop_invariants.specs.EntryNames.{bound}
 
 abbrev pub BindsBound : Fact → Type 0
 BindsBound (fact.Plain f) = ⊤

@@ -3,9 +3,10 @@ use Rattle.std.specs.Prelude.{ℕ, Bool, List, [], map, Option, Some, None, unwr
 use Rattle.std.specs.Option.{option_map}
 use Rattle.c_lang.specs.Names.{Bytes}
 use Rattle.c_lang.specs.Programs.{func_in}
+use Rattle.c_lang.specs.declared.program.GlobalVar.{GlobalVar}
 use Rattle.c_lang.specs.declared.program.Program.{Program}
 use Rattle.terms.specs.declared.fact.Fact.{Fact}
-use Rattle.loop_invariants.specs.declared.hints.Hints.{Hints}
+use Rattle.loop_invariants.specs.Hints.{Hints}
 use Rattle.loop_invariants.specs.Hints.{contract_of, invariants_of}
 use Rattle.expression_conditions.specs.Numbers.{Numbers, numbers_in}
 use Rattle.expression_conditions.specs.Candidates.{candidates}
@@ -24,6 +25,9 @@ pub record Context : Type 0 where
   -- the invariants of a loop, by the function and the loop's number
   pub invariants : Bytes → ℕ → List Fact
 
+abbrev pub names_of : List GlobalVar → List Bytes
+names_of globals = map (λ g. g.name) globals
+
 abbrev pub needs_of : Hints → Bytes → List Fact
 needs_of hints f = unwrap_or (option_map (λ c. c.needs) (contract_of hints f)) []
 
@@ -41,11 +45,11 @@ assigns_of globals hints f = unwrap_or (option_map (λ c. listed_or globals c.as
 abbrev pub context_of : Program → Hints → Context
 context_of p hints = record {
   numbers = numbers_in p;
-  globals = map (λ g. g.name) p.globals;
+  globals = names_of p.globals;
   gives = λ f. (func_in p.funcs f).gives;
   needs = needs_of hints;
   promises = promises_of hints;
-  assigns = assigns_of (map (λ g. g.name) p.globals) hints;
+  assigns = assigns_of (names_of p.globals) hints;
   reached = λ n. map (λ d. d.name) (candidates p n);
   invariants = invariants_of hints;
 }

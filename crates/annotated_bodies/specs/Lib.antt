@@ -1,0 +1,4 @@
+pub mod Sources
+pub mod Seen
+pub mod Places
+pub mod Code

@@ -1,0 +1,11 @@
+pub mod Turns
+pub mod PartLaws
+pub mod LexLaws
+pub mod LineLaws
+pub mod CutLaws
+pub mod FrontLaws
+pub mod FormulaLaws
+pub mod FactLaws
+pub mod StatementLaws
+pub mod TextLaws
+pub mod ItemLaws

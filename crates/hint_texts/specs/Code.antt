@@ -1,0 +1,4 @@
+-- Definitions that mirror the code.
+pub mod Runs
+pub mod Lexing
+pub mod Reading

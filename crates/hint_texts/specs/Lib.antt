@@ -1,0 +1,5 @@
+pub mod Parts
+pub mod Tokens
+pub mod Grammar
+pub mod Texts
+pub mod Code

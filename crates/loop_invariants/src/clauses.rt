@@ -1,0 +1,295 @@
+//! What may stand in a clause.
+
+ghost use Rattle.std.specs.Prelude.{◌≡◌, Bool, IfOk};
+ghost use Rattle.std.specs.Str.{bytes_eq};
+ghost use Rattle.c_lang.specs.Programs.{global_named};
+ghost use Rattle.loop_invariants.specs.EntryNames as entry;
+ghost use Rattle.loop_invariants.specs.SetNames.{is_among};
+ghost use Rattle.loop_invariants.specs.Clauses as spec;
+ghost use Rattle.terms.specs.declared.fact.Fact.{Fact};
+ghost use Rattle.terms.specs.Symbols.{same_sym};
+ghost use Rattle.terms.specs.Trees.{read, denied};
+ghost use Rattle.loop_invariants.specs.Code.Allowed.{seen_names, seen_place, seen_under, are_terms, are_forms};
+
+use c_lang::{GlobalVar, Name, Shape};
+use itoa::Buffer;
+use name_tables::ProgramNames;
+use std::alloc::{AllocError, Global};
+use terms::{ArrayRef, ArrayView, Fact, Form, FormRef, FormView, Sym, TermRef, TermView};
+
+/// The most operators on a path of a formula.
+const OPERATOR_LIMIT: u32 = 64;
+
+/// The greatest number that a formula may have.
+const LITERAL_LIMIT: i128 = 2_147_483_647;
+
+/// What may stand in a clause: the program's globals, these parameters and locals, the parameters at
+/// entry by these texts, and the result and the globals at entry where they may.
+pub(crate) struct Allowed<'a> {
+    pub(crate) names: &'a ProgramNames<'a>,
+    pub(crate) locals: Vec<Name>,
+    pub(crate) parameters: Vec<Name>,
+    pub(crate) result: bool,
+    pub(crate) at_entry: bool,
+}
+
+// The text of the value at entry of the parameter with this number.
+fn parameter_text(alloc: Global, number: usize) -> Result<Name, AllocError>
+    ensures { IfOk result (λ text. text ≡ entry.parameter_text number) }
+{
+    let mut bytes = Vec::from_slice(alloc, b"$")?;
+    let mut buffer = Buffer::new();
+    bytes.extend_from_slice(buffer.format(number).as_bytes())?;
+    Ok(Name::from_vec(bytes))
+}
+
+// The texts of the values at entry of so many parameters.
+fn parameter_texts(alloc: Global, count: usize) -> Result<Vec<Name>, AllocError>
+    ensures { IfOk result (λ texts. texts.items ≡ spec.parameter_texts count) }
+{
+    let mut texts = Vec::new(alloc);
+    for before in 0..count {
+        texts.push(parameter_text(alloc, before + 1)?)?;
+    }
+    Ok(texts)
+}
+
+/// Where a clause stands: the parameters and locals of which it may speak, how many parameters the function
+/// has, whether it may speak of the result, and of globals at entry.
+#[derive(Debug, Drop)]
+pub(crate) struct Place {
+    pub(crate) locals: Vec<Name>,
+    pub(crate) parameters: usize,
+    pub(crate) result: bool,
+    pub(crate) at_entry: bool,
+}
+
+// By hand, so that a proof has one step for each that is dropped.
+impl Drop for Allowed<'_> {
+    fn drop(self) {
+        let Allowed {
+            names: _names,
+            locals: _locals,
+            parameters: _parameters,
+            result: _result,
+            at_entry: _at_entry,
+        } = self;
+    }
+}
+
+fn holds_array(shape: &Shape) -> bool
+    ensures { result ≡ spec.holds_array shape.now }
+{
+    match shape {
+        Shape::Int(_) => false,
+        Shape::Arr(_) => true,
+        Shape::Fp(_, _) => false,
+    }
+}
+
+fn is_array(names: &ProgramNames<'_>, name: &Name) -> bool
+    ensures { result ≡ spec.is_array (global_named names.now.globals name.now) }
+{
+    match names.global(name) {
+        None => false,
+        Some(global) => holds_array(&global.shape),
+    }
+}
+
+fn is_scalar(names: &ProgramNames<'_>, name: &Name) -> bool
+    ensures { result ≡ spec.is_scalar (global_named names.now.globals name.now) }
+{
+    match names.global(name) {
+        None => false,
+        Some(global) => !holds_array(&global.shape),
+    }
+}
+
+// Whether the name is the text of the global's value at entry.
+fn is_entry_text(global: &Name, name: &Name) -> bool
+    ensures { result ≡ bytes_eq (entry.entry_text global.now) name.now }
+{
+    let bytes = name.as_bytes();
+    match bytes.strip_prefix(b"pre(") {
+        None => false,
+        Some(rest) => match rest.strip_suffix(b")") {
+            None => false,
+            Some(inner) => global.as_bytes() == inner,
+        },
+    }
+}
+
+fn is_entry_scalar(names: &ProgramNames<'_>, name: &Name) -> bool
+    ensures { result ≡ spec.is_entry_of spec.is_scalar names.now.globals name.now }
+{
+    names.program().globals.as_slice().iter().any(|global| is_scalar(names, &global.name)
+        && is_entry_text(&global.name, name))
+}
+
+fn is_entry_array(names: &ProgramNames<'_>, name: &Name) -> bool
+    ensures { result ≡ spec.is_entry_of spec.is_array names.now.globals name.now }
+{
+    names.program().globals.as_slice().iter().any(|global| is_array(names, &global.name)
+        && is_entry_text(&global.name, name))
+}
+
+fn is_listed(names: &[Name], name: &Name) -> bool
+    ensures { result ≡ is_among name.now names.now }
+{
+    names.iter().any(|listed| name == listed)
+}
+
+impl<'a> Allowed<'a> {
+    /// What may stand at this place of the program. The only error is want of memory.
+    pub(crate) fn new(
+        alloc: Global,
+        names: &'a ProgramNames<'a>,
+        place: Place,
+    ) -> Result<Allowed<'a>, AllocError>
+        ensures { IfOk result (λ allowed. (fact : Fact) →
+            spec.may_be_fact (seen_names allowed) fact ≡ spec.may_stand names.entry.now (seen_place place) fact) }
+    {
+        let parameters = parameter_texts(alloc, place.parameters)?;
+        Ok(Allowed {
+            names,
+            parameters,
+            result: place.result,
+            at_entry: place.at_entry,
+            locals: place.locals,
+        })
+    }
+
+    fn may_be_number(&self, name: &Name) -> bool
+        ensures { result ≡ (seen_names self.now).number name.now }
+    {
+        is_scalar(self.names, name)
+            || (is_listed(&self.locals, name)
+                || (is_listed(&self.parameters, name)
+                    || ((self.result && name.as_bytes() == b"$r".as_slice())
+                        || (self.at_entry && is_entry_scalar(self.names, name)))))
+    }
+
+    fn may_be_array(&self, name: &Name) -> bool
+        ensures { result ≡ (seen_names self.now).array name.now }
+    {
+        is_array(self.names, name) || (self.at_entry && is_entry_array(self.names, name))
+    }
+
+    // A name that stands for a number, outside a quantifier or in its body.
+    fn number(&self, inside: bool, symbol: &Sym) -> bool
+        ensures { result ≡ spec.is_plain (seen_under inside self.now).number symbol.now }
+    {
+        symbol.count == 0
+            && ((inside && symbol.base.as_bytes() == b"$".as_slice())
+                || self.may_be_number(&symbol.base))
+    }
+
+    fn array(&self, array: &ArrayRef<'_>) -> bool
+        ensures { (inside : Bool) → result ≡ spec.may_be_array (seen_under inside self.now) array.now }
+    {
+        match array.view() {
+            ArrayView::Base(symbol) => symbol.count == 0 && self.may_be_array(&symbol.base),
+            ArrayView::Store(_, _, _) => false,
+        }
+    }
+
+    #[cycle(term)]
+    fn terms(&self, inside: bool, operators: u32, left: &TermRef<'_>, right: &TermRef<'_>) -> bool
+        ensures { result ≡ are_terms (seen_under inside self.now) operators left.now right.now }
+    {
+        match operators.checked_sub(1) {
+            None => false,
+            Some(below) => self.term(inside, below, left) && self.term(inside, below, right),
+        }
+    }
+
+    #[cycle(term)]
+    fn element(
+        &self,
+        inside: bool,
+        operators: u32,
+        array: &ArrayRef<'_>,
+        index: &TermRef<'_>,
+    ) -> bool
+        ensures { result ≡ spec.may_be_term (seen_under inside self.now) operators (read array.now index.now) }
+    {
+        match operators.checked_sub(1) {
+            None => false,
+            Some(below) => self.array(array) && self.term(inside, below, index),
+        }
+    }
+
+    #[cycle(term)]
+    fn term(&self, inside: bool, operators: u32, term: &TermRef<'_>) -> bool
+        ensures { result ≡ spec.may_be_term (seen_under inside self.now) operators term.now }
+    {
+        match term.view() {
+            TermView::Num(value) => 0 <= value && value <= LITERAL_LIMIT,
+            TermView::Of(symbol) => self.number(inside, symbol),
+            TermView::Add(left, right) => self.terms(inside, operators, &left, &right),
+            TermView::Sub(left, right) => self.terms(inside, operators, &left, &right),
+            TermView::Mul(left, right) => self.terms(inside, operators, &left, &right),
+            TermView::Div(_, _) => false,
+            TermView::Rem(_, _) => false,
+            TermView::Read(array, index) => self.element(inside, operators, &array, &index),
+            TermView::Truth(_) => false,
+        }
+    }
+
+    #[cycle(form)]
+    fn forms(&self, inside: bool, operators: u32, left: &FormRef<'_>, right: &FormRef<'_>) -> bool
+        ensures { result ≡ are_forms (seen_under inside self.now) operators left.now right.now }
+    {
+        match operators.checked_sub(1) {
+            None => false,
+            Some(below) => self.form(inside, below, left) && self.form(inside, below, right),
+        }
+    }
+
+    #[cycle(form)]
+    fn denial(&self, inside: bool, operators: u32, form: &FormRef<'_>) -> bool
+        ensures { result ≡ spec.may_be_form (seen_under inside self.now) operators (denied form.now) }
+    {
+        match operators.checked_sub(1) {
+            None => false,
+            Some(below) => self.form(inside, below, form),
+        }
+    }
+
+    #[cycle(form)]
+    fn form(&self, inside: bool, operators: u32, form: &FormRef<'_>) -> bool
+        ensures { result ≡ spec.may_be_form (seen_under inside self.now) operators form.now }
+    {
+        match form.view() {
+            FormView::True => false,
+            FormView::False => false,
+            FormView::Le(left, right) => self.terms(inside, operators, &left, &right),
+            FormView::Eq(left, right) => self.terms(inside, operators, &left, &right),
+            FormView::Not(inner) => self.denial(inside, operators, &inner),
+            FormView::And(left, right) => self.forms(inside, operators, &left, &right),
+            FormView::Or(left, right) => self.forms(inside, operators, &left, &right),
+        }
+    }
+
+    /// Whether the fact may stand there. It takes no memory.
+    pub(crate) fn fact(&self, fact: &Fact) -> bool
+        ensures { result ≡ spec.may_be_fact (seen_names self.now) fact.now }
+    {
+        match fact {
+            Fact::Plain(form) => self.form(false, OPERATOR_LIMIT, &form.as_ref()),
+            Fact::All { var, lo, hi, body } => {
+                is_bound(var)
+                    && (self.term(false, OPERATOR_LIMIT, &lo.as_ref())
+                        && (self.term(false, OPERATOR_LIMIT, &hi.as_ref())
+                            && self.form(true, OPERATOR_LIMIT, &body.as_ref())))
+            }
+        }
+    }
+}
+
+// Whether it is the name that facts bind.
+fn is_bound(symbol: &Sym) -> bool
+    ensures { result ≡ same_sym symbol.now entry.bound }
+{
+    symbol.count == 0 && symbol.base.as_bytes() == b"$".as_slice()
+}
