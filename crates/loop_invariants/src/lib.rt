@@ -2,6 +2,7 @@
 #![tactic(auto)]
 
 mod clauses;
+mod copy;
 mod hints;
 
 pub use hints::{Contract, Hints};
