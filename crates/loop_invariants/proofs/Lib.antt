@@ -1,2 +1,3 @@
 pub mod EntryTexts
 pub mod Operands
+pub mod SeekingLaws

@@ -5,7 +5,7 @@ use Rattle.loop_invariants.specs.Clauses.{Names, may_be_term, may_be_array, may_
 use Rattle.loop_invariants.specs.Code.Allowed.{are_terms, are_forms}
 
 -- what n less one comes to
-above : (n m : ℕ) → 1 ≤ n → m ≡ n - 1 → suc m ≡ n
+pub above : (n m : ℕ) → 1 ≤ n → m ≡ n - 1 → suc m ≡ n
 above n m le e = omega (arith)
 
 -- a first test, and a second one where it holds

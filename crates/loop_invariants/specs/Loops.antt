@@ -44,7 +44,7 @@ abbrev mutual
 
   pub loops_in : List Bytes → Statements → List (List Bytes)
   loops_in visible tree.none = []
-  loops_in visible (tree.more s ss) = loops visible s ++ loops_in (declared s ++ visible) ss
+  loops_in visible (tree.more s ss) = loops visible s ++ loops_in (visible ++ declared s) ss
 
 abbrev pub loops_of : Func → List (List Bytes)
 loops_of f = loops_in (map (λ p. p.1) f.params) (statements (map statement_of f.body))

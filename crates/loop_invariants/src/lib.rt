@@ -4,5 +4,6 @@
 mod clauses;
 mod copy;
 mod hints;
+mod loops;
 
 pub use hints::{Contract, Hints};
