@@ -1,3 +1,4 @@
 pub mod EntryTexts
+pub mod Examples
 pub mod Operands
 pub mod SeekingLaws
