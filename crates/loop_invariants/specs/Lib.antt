@@ -7,4 +7,5 @@ pub mod Loops
 pub mod Clauses
 pub mod Assigned
 pub mod Fitting
+pub mod Adding
 pub mod Code

@@ -1,6 +1,7 @@
 //! What hints say of a program: the contracts of functions and the invariants of loops.
 #![tactic(auto)]
 
+mod adding;
 mod clauses;
 mod copy;
 mod hints;
