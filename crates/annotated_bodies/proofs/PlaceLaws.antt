@@ -22,7 +22,7 @@ symmetric x y = by (bytes_eq x y) (bytes_eq y x) refl refl
 -- what the last of these gives is what one of them gives
 pub given_once : (counts : Bytes → ℕ) (x : Bytes) (bases : List Bytes) (before : Option ℕ)
     → unwrap_or (last_given (map (numbered counts) bases) x before) 0
-      ≡ (if is_among x bases then suc (counts x) else unwrap_or before 0)
+    ≡ (if is_among x bases then suc (counts x) else unwrap_or before 0)
 given_once counts x [] before = refl
 given_once counts x (y ∷ bases) before = by (given_once counts x bases) (bytes_eq y x) refl
   where
@@ -33,7 +33,7 @@ given_once counts x (y ∷ bases) before = by (given_once counts x bases) (bytes
     by : ((o : Option ℕ) → unwrap_or (last_given (map (numbered counts) bases) x o) 0 ≡ (if is_among x bases then suc (counts x) else unwrap_or o 0))
         → (b : Bool) → bytes_eq y x ≡ b
         → unwrap_or (last_given (map (numbered counts) bases) x (if bytes_eq y x then Some (suc (counts y)) else before)) 0
-          ≡ (if bytes_eq x y || is_among x bases then suc (counts x) else unwrap_or before 0)
+        ≡ (if bytes_eq x y || is_among x bases then suc (counts x) else unwrap_or before 0)
     by rest true same =
         ap (λ c. unwrap_or (last_given (map (numbered counts) bases) x (if c then Some (suc (counts y)) else before)) 0) same
         ∙ (ap (λ z. unwrap_or (last_given (map (numbered counts) bases) x (Some (suc (counts z)))) 0) ((bytes_eq-Decides y x).0 same)

@@ -22,7 +22,6 @@ fn plain<'c>(alloc: Global, stmt: &'c Stmt) -> Annotated<'c>
 {
     Annotated {
         stmt,
-        count: 0,
         first: Items::new(alloc),
         second: Items::new(alloc),
         invariants: &[],
@@ -41,7 +40,6 @@ fn giving<'c>(
 {
     Annotated {
         stmt,
-        count: 0,
         first: Items::new(alloc),
         second: Items::new(alloc),
         invariants: &[],
@@ -153,8 +151,8 @@ fn if_else<'c>(
     ensures made { IfOk result (λ a. seen_annotated a ≡ annotated_by (statement_of stmt.entry.now)
         (spec.annotated_all (context_in context.entry.now) func.now (seen_place place.old) (statements (map statement_of yes.entry.now)))
         (spec.annotated_all (context_in context.entry.now) func.now
-            (spec.past_all (context_in context.entry.now) (statements (map statement_of yes.entry.now)) (seen_place place.old))
-            (statements (map statement_of no.entry.now)))
+        (spec.past_all (context_in context.entry.now) (statements (map statement_of yes.entry.now)) (seen_place place.old))
+        (statements (map statement_of no.entry.now)))
         [] [] []) }
     ensures place { OnOk result (seen_place place.new ≡ spec.past_all (context_in context.entry.now) (statements (map statement_of no.entry.now))
         (spec.past_all (context_in context.entry.now) (statements (map statement_of yes.entry.now)) (seen_place place.old))) }
@@ -163,7 +161,6 @@ fn if_else<'c>(
     let second = annotated_all(alloc, context, func, place, no)?;
     Ok(Annotated {
         stmt,
-        count: 0,
         first,
         second,
         invariants: &[],
@@ -183,8 +180,8 @@ fn while_loop<'c>(
 ) -> Result<Annotated<'c>, AllocError>
     ensures made { IfOk result (λ a. seen_annotated a ≡ annotated_by (statement_of stmt.entry.now)
         (spec.annotated_all (context_in context.entry.now) func.now
-            (spec.inside (context_in context.entry.now) (statements (map statement_of turn.entry.now)) (seen_place place.old))
-            (statements (map statement_of turn.entry.now)))
+        (spec.inside (context_in context.entry.now) (statements (map statement_of turn.entry.now)) (seen_place place.old))
+        (statements (map statement_of turn.entry.now)))
         none
         ((context_in context.entry.now).invariants func.now (suc (seen_place place.old).loops))
         []
@@ -201,7 +198,6 @@ fn while_loop<'c>(
     let first = annotated_all(alloc, context, func, place, turn)?;
     Ok(Annotated {
         stmt,
-        count: 0,
         first,
         second: Items::new(alloc),
         invariants,
@@ -229,7 +225,15 @@ fn annotated<'c>(
         Stmt::Call { dest, callee, .. } => call(alloc, context, place, stmt, dest, callee),
         Stmt::CallBy { dest, args, .. } => call_by(alloc, context, place, stmt, dest, args.len()),
         Stmt::If { yes, no, .. } => {
-            if_else(alloc, context, func, place, stmt, yes.as_slice(), no.as_slice())
+            if_else(
+                alloc,
+                context,
+                func,
+                place,
+                stmt,
+                yes.as_slice(),
+                no.as_slice(),
+            )
         }
         Stmt::While { body, .. } => {
             while_loop(alloc, context, func, place, stmt, body.as_slice())

@@ -56,10 +56,7 @@ fn next_names<'p>(
     Ok(all)
 }
 
-fn put_all<'p>(
-    counts: &mut NameTable<'p, u32>,
-    names: &[FreshName<'p>],
-) -> Result<(), AllocError>
+fn put_all<'p>(counts: &mut NameTable<'p, u32>, names: &[FreshName<'p>]) -> Result<(), AllocError>
     ensures { OnOk result ((x : Bytes) → found counts.new x ≡ last_given (map seen_fresh names.now) x (found counts.old x)) }
 {
     for name in names {
