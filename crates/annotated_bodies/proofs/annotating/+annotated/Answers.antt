@@ -1,6 +1,4 @@
-use Rattle.std.proofs.Common.{map, ap, ◌∙◌}
-use Rattle.c_lang.specs.Trees.{statement_of, statements}
-use Rattle.weakest_preconditions.specs.Annotating as spec
+use Rattle.std.proofs.Common.{ap, ◌∙◌}
 use Rattle.annotated_bodies.specs.Places.{seen_place}
 use Rattle.annotated_bodies.specs.Seen.{seen_body}
 use Rattle.annotated_bodies.specs.Sources.{context_in}

@@ -1,5 +1,5 @@
 use denote.Param.Weighed.{most}
-use Rattle.std.proofs.Common.{◌≡◌, ◌+◌, ◌*◌, ◌++◌, max, map, drop}
+use Rattle.std.proofs.Common.{◌≡◌, ◌+◌, ◌*◌, max, map, drop}
 use Rattle.c_lang.specs.Trees.{statement_of, statements}
 use Rattle.c_lang.proofs.stmt.Stmt.TheLaws.{the_size}
 use Rattle.weakest_preconditions.specs.Annotating as spec
