@@ -1,5 +1,5 @@
 -- The code's annotated statements as plain data, on which definitions go by cases.
-use Rattle.std.specs.Prelude.{ℕ, List, [], ◌∷◌, map}
+use Rattle.std.specs.Prelude.{List, [], ◌∷◌, map}
 use Rattle.c_lang.specs.Trees.{Statement, Statements, statement_of}
 use Rattle.c_lang.specs.Trees as tree
 use Rattle.terms.specs.declared.sym.Sym.{Sym}
@@ -12,7 +12,7 @@ use Rattle.weakest_preconditions.specs.Annotated.{Annotated, aside, set, set_ele
 -- statements with what is noted of them
 mutual
   pub data Noted : Type 0 where
-    noted : Statement → (count : ℕ) → (first second : Notes) → List Fact → (outcome fresh : List Sym) → Noted
+    noted : Statement → (first second : Notes) → List Fact → (outcome fresh : List Sym) → Noted
 
   pub data Notes : Type 0 where
     end : Notes
@@ -23,7 +23,7 @@ notes [] = end
 notes (t ∷ ts) = next t (notes ts)
 
 abbrev pub noted_step : Annotated-F Noted → Noted
-noted_step a = noted (statement_of a.stmt.now) a.count (notes a.first) (notes a.second) a.invariants.now a.outcome a.fresh
+noted_step a = noted (statement_of a.stmt.now) (notes a.first) (notes a.second) a.invariants.now a.outcome a.fresh
 
 abbrev pub noted_of : code.Annotated → Noted
 noted_of = fold-Annotated Noted noted_step
@@ -50,7 +50,7 @@ abbrev mutual
 
 abbrev mutual
   pub annotated_in : Noted → Annotated
-  annotated_in (noted s count a b invariants outcome fresh) = annotated_by s (body_in a) (body_in b) invariants outcome fresh
+  annotated_in (noted s a b invariants outcome fresh) = annotated_by s (body_in a) (body_in b) invariants outcome fresh
 
   pub body_in : Notes → Body
   body_in end = none

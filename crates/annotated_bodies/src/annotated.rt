@@ -7,8 +7,6 @@ use terms::{Fact, Sym};
 #[derive(Debug, Drop)]
 pub struct Annotated<'p> {
     pub stmt: &'p Stmt,
-    /// How many conditions there are from this statement on: exact up to 4,096, and else more than that.
-    pub count: u64,
     /// What runs where an `if`'s condition holds, or a loop's body.
     pub first: Items<Annotated<'p>>,
     /// What runs where an `if`'s condition doesn't hold.

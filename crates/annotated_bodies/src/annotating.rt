@@ -23,7 +23,6 @@ fn plain<'c>(alloc: Global, stmt: &'c Stmt) -> Annotated<'c>
 {
     Annotated {
         stmt,
-        count: 0,
         first: Items::new(alloc),
         second: Items::new(alloc),
         invariants: &[],
@@ -42,7 +41,6 @@ fn giving<'c>(
 {
     Annotated {
         stmt,
-        count: 0,
         first: Items::new(alloc),
         second: Items::new(alloc),
         invariants: &[],
@@ -164,7 +162,6 @@ fn if_else<'c>(
     let second = annotated_all(alloc, context, func, place, no)?;
     Ok(Annotated {
         stmt,
-        count: 0,
         first,
         second,
         invariants: &[],
@@ -202,7 +199,6 @@ fn while_loop<'c>(
     let first = annotated_all(alloc, context, func, place, turn)?;
     Ok(Annotated {
         stmt,
-        count: 0,
         first,
         second: Items::new(alloc),
         invariants,

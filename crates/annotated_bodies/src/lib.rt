@@ -1,5 +1,4 @@
-//! The bodies of functions with what their conditions need: the invariants of loops, fresh names, and how many
-//! conditions there are from each statement on.
+//! The bodies of functions with what their conditions need: the invariants of loops, and fresh names.
 #![tactic(auto)]
 
 mod annotated;
