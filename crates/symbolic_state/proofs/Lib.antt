@@ -5,3 +5,5 @@ pub mod ValueLaws
 pub mod KindLaws
 pub mod WritingLaws
 pub mod ChangeLaws
+pub mod PairLaws
+pub mod StepValues
