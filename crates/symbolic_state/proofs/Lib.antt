@@ -7,3 +7,4 @@ pub mod WritingLaws
 pub mod ChangeLaws
 pub mod PairLaws
 pub mod StepValues
+pub mod CurrentLaws

@@ -1,7 +1,8 @@
 -- A step more, and a step less, with all its pairs.
-use Rattle.std.proofs.Common.{◌≡◌, ℕ, ◌+◌, Bool, true, false, ◌&&◌, nat_eq, find, bytes_eq, if◌then◌else◌, List, [], ◌∷◌, ◌++◌, length, slice_get, Option, Some, None, unwrap_or, refl, sym, ap, ap₂, ◌∙◌, subst, arith}
+use Rattle.std.proofs.Common.{◌≡◌, ℕ, ◌+◌, Bool, true, false, ◌&&◌, nat_eq, find, bytes_eq, if◌then◌else◌, List, [], ◌∷◌, ◌++◌, length, reverse, slice_get, Option, Some, None, unwrap_or, refl, sym, ap, ap₂, ◌∙◌, subst, arith}
 use Rattle.std.specs.Option.{option_map}
 use Rattle.std.proofs.lemmas.Bool.{eq-eqb}
+use Rattle.std.proofs.lemmas.List.{length-reverse, reverse-append}
 use Rattle.c_lang.specs.Names.{Bytes}
 use Rattle.terms.specs.declared.sym.Sym.{Sym}
 use Rattle.terms.specs.declared.changes.Changes.{Changes}
@@ -14,8 +15,8 @@ use Rattle.symbolic_state.specs.declared.step.Step.{Step}
 use Rattle.symbolic_state.specs.declared.step.Step.TheVariants as step
 use Rattle.symbolic_state.specs.declared.bindings.Binding.{Binding}
 use Rattle.symbolic_state.specs.Code.Bindings.{unbound}
-use Rattle.symbolic_state.specs.Code.Joined.{change_of}
-use Rattle.symbolic_state.specs.Code.Values.{step_at, Kind, pair_of, Source, EndsIn, Chosen, HasValues, as_numbers, as_arrays, own_value, bound_by, unbound_by, AreCurrent}
+use Rattle.symbolic_state.specs.Code.Joined.{change_of, GivesBound}
+use Rattle.symbolic_state.specs.Code.Values.{step_at, Kind, pair_of, Source, EndsIn, Chosen, HasValues, as_numbers, as_arrays, own_value, bound_by, unbound_by, numbers_of, arrays_of, AreCurrent, HasTables}
 use Rattle.symbolic_state.proofs.ValueLaws.{outer_less, outer_more}
 use Rattle.symbolic_state.proofs.ChangeLaws.{not_yet, taken_back}
 use Rattle.symbolic_state.proofs.PairLaws.{At, bound_none, bound_some, unbound_none, unbound_some}
@@ -68,25 +69,71 @@ module _ {T : Type 0} (K : Kind T) (s : Step) (steps : List Step) (x : Bytes) (p
 
 -- ---- numbers and arrays
 
-number_value : (x : Bytes) (c : Changes) → same_sym bound (current x) ≡ false → as_numbers.value x (step.Replaces c) ≡ option_map (λ p. p.1) (first x c.numbers)
-number_value x c free = ap (λ b. if b then None else option_map (λ p. p.1) (first x c.numbers)) free
+number_value : (x : Bytes) (s : Step) → same_sym bound (current x) ≡ false → as_numbers.value x s ≡ option_map (λ p. p.1) (first x (numbers_of s))
+number_value x s free = ap (λ b. if b then None else option_map (λ p. p.1) (first x (numbers_of s))) free
 
-module _ (c : Changes) (steps : List Step) (x : Bytes) (bs : List Binding) where
-  pub numbers_more : same_sym bound (current x) ≡ false → AreCurrent c.numbers
-      → HasValues as_numbers steps x bs → HasValues as_numbers (step.Replaces c ∷ steps) x (bound_by (length steps) 0 c.numbers x bs)
-  numbers_more free are has = step_more as_numbers (step.Replaces c) steps x c.numbers are (number_value x c free) (λ k. refl)
-      (λ q e. ap (λ b. replaced_term (change_of steps) (if b then name (current x) else unwrap_or (option_map (λ p. p.1) (first x c.numbers)) (name (current x)))) free
-      ∙ ap (λ o. replaced_term (change_of steps) (unwrap_or (option_map (λ p. p.1) o) (name (current x)))) e)
-      bs has
+number_put : (s : Step) (steps : List Step) (x : Bytes) (q : Sym × TermTree) → same_sym bound (current x) ≡ false → first x (numbers_of s) ≡ Some q
+    → as_numbers.at (change_of (s ∷ steps)) x ≡ replaced_term (change_of steps) q.1
+number_put (step.Replaces c) steps x q free e =
+    ap (λ b. replaced_term (change_of steps) (if b then name (current x) else unwrap_or (option_map (λ p. p.1) (first x c.numbers)) (name (current x)))) free
+    ∙ ap (λ o. replaced_term (change_of steps) (unwrap_or (option_map (λ p. p.1) o) (name (current x)))) e
+number_put (step.Assumes f) steps x q free e = absurd cc
 
-  pub arrays_more : AreCurrent c.arrays → HasValues as_arrays steps x bs → HasValues as_arrays (step.Replaces c ∷ steps) x (bound_by (length steps) 0 c.arrays x bs)
-  arrays_more are has = step_more as_arrays (step.Replaces c) steps x c.arrays are refl (λ k. refl)
-      (λ q e. ap (λ o. replaced_array (change_of steps) (unwrap_or (option_map (λ p. p.1) o) (array (current x)))) e)
-      bs has
+array_put : (s : Step) (steps : List Step) (x : Bytes) (q : Sym × ArrayTree) → first x (arrays_of s) ≡ Some q
+    → as_arrays.at (change_of (s ∷ steps)) x ≡ replaced_array (change_of steps) q.1
+array_put (step.Replaces c) steps x q e = ap (λ o. replaced_array (change_of steps) (unwrap_or (option_map (λ p. p.1) o) (array (current x)))) e
+array_put (step.Assumes f) steps x q e = absurd cc
 
-  pub numbers_less : same_sym bound (current x) ≡ false → AreCurrent c.numbers
-      → HasValues as_numbers (step.Replaces c ∷ steps) x bs → HasValues as_numbers steps x (unbound_by (length steps) c.numbers x bs)
-  numbers_less free are has = step_less as_numbers (step.Replaces c) steps x c.numbers are (number_value x c free) bs has
+module _ (s : Step) (steps : List Step) where
+  -- a step more
+  pub more : (n a m b : Bytes → List Binding) → HasTables steps n a → GivesBound (s ∷ steps) → AreCurrent (numbers_of s) × AreCurrent (arrays_of s)
+      → ((x : Bytes) → m x ≡ bound_by (length steps) 0 (numbers_of s) x (n x)) → ((x : Bytes) → b x ≡ bound_by (length steps) 0 (arrays_of s) x (a x))
+      → HasTables (s ∷ steps) m b
+  more n a m b has gives are ms bs = record {
+    gives = gives;
+    names = (are, has.names);
+    numbers = λ x free. subst (HasValues as_numbers (s ∷ steps) x) (sym (ms x))
+        (step_more as_numbers s steps x (numbers_of s) are.0 (number_value x s free) (λ k. refl) (λ q e. number_put s steps x q free e) (n x) (has.numbers x free));
+    arrays = λ x. subst (HasValues as_arrays (s ∷ steps) x) (sym (bs x))
+        (step_more as_arrays s steps x (arrays_of s) are.1 refl (λ k. refl) (λ q e. array_put s steps x q e) (a x) (has.arrays x));
+  }
 
-  pub arrays_less : AreCurrent c.arrays → HasValues as_arrays (step.Replaces c ∷ steps) x bs → HasValues as_arrays steps x (unbound_by (length steps) c.arrays x bs)
-  arrays_less are has = step_less as_arrays (step.Replaces c) steps x c.arrays are refl bs has
+  gives_less : (s : Step) → GivesBound (s ∷ steps) → GivesBound steps
+  gives_less (step.Replaces c) gives = gives
+  gives_less (step.Assumes f) gives = gives.1
+
+  -- a step less
+  pub less : (n a m b : Bytes → List Binding) → HasTables (s ∷ steps) n a
+      → ((x : Bytes) → m x ≡ unbound_by (length steps) (numbers_of s) x (n x)) → ((x : Bytes) → b x ≡ unbound_by (length steps) (arrays_of s) x (a x))
+      → HasTables steps m b
+  less n a m b has ms bs = record {
+    gives = gives_less s has.gives;
+    names = has.names.1;
+    numbers = λ x free. subst (HasValues as_numbers steps x) (sym (ms x))
+        (step_less as_numbers s steps x (numbers_of s) has.names.0.0 (number_value x s free) (n x) (has.numbers x free));
+    arrays = λ x. subst (HasValues as_arrays steps x) (sym (bs x))
+        (step_less as_arrays s steps x (arrays_of s) has.names.0.1 refl (a x) (has.arrays x));
+  }
+
+-- ---- the same, where the steps stand as they were made
+
+pub none : (n a : Bytes → List Binding) → ((x : Bytes) → n x ≡ []) → ((x : Bytes) → a x ≡ []) → HasTables [] n a
+none n a no_numbers no_arrays = record { gives = tt; names = tt; numbers = λ x free. no_numbers x; arrays = no_arrays }
+
+pub made_more : (made : List Step) (s : Step) (n a m b : Bytes → List Binding) → HasTables (reverse made) n a → GivesBound (s ∷ reverse made)
+    → AreCurrent (numbers_of s) × AreCurrent (arrays_of s)
+    → ((x : Bytes) → m x ≡ bound_by (length made) 0 (numbers_of s) x (n x)) → ((x : Bytes) → b x ≡ bound_by (length made) 0 (arrays_of s) x (a x))
+    → HasTables (reverse (made ++ (s ∷ []))) m b
+made_more made s n a m b has gives are ms bs =
+    let count = sym (length-reverse made) in
+    subst (λ l. HasTables l m b) (sym (reverse-append made (s ∷ [])))
+    (more s (reverse made) n a m b has gives are
+    (λ x. ms x ∙ ap (λ k. bound_by k 0 (numbers_of s) x (n x)) count) (λ x. bs x ∙ ap (λ k. bound_by k 0 (arrays_of s) x (a x)) count))
+
+pub made_less : (made : List Step) (s : Step) (n a m b : Bytes → List Binding) → HasTables (reverse (made ++ (s ∷ []))) n a
+    → ((x : Bytes) → m x ≡ unbound_by (length made) (numbers_of s) x (n x)) → ((x : Bytes) → b x ≡ unbound_by (length made) (arrays_of s) x (a x))
+    → HasTables (reverse made) m b
+made_less made s n a m b has ms bs =
+    let count = sym (length-reverse made) in
+    less s (reverse made) n a m b (subst (λ l. HasTables l n a) (reverse-append made (s ∷ [])) has)
+    (λ x. ms x ∙ ap (λ k. unbound_by k (numbers_of s) x (n x)) count) (λ x. bs x ∙ ap (λ k. unbound_by k (arrays_of s) x (a x)) count)

@@ -1,11 +1,13 @@
-ghost use Rattle.std.specs.Prelude.{◌≡◌, OnOk};
+ghost use Rattle.std.specs.Prelude.{◌≡◌, [], ◌∷◌, ◌++◌, length, OnOk};
 ghost use Rattle.c_lang.specs.Names.{Bytes};
 ghost use Rattle.symbolic_state.specs.Code.Bindings.{values_of};
-ghost use Rattle.symbolic_state.specs.Code.Values.{bound_by, unbound_by};
+ghost use Rattle.symbolic_state.specs.Code.Values.{bound_by, unbound_by, numbers_of, arrays_of};
+ghost use Rattle.symbolic_state.specs.declared.step.Step.TheVariants as step;
 
+use crate::Step;
 use crate::bindings::{Binding, Bindings};
 use std::alloc::{AllocError, Global};
-use terms::{ArrayTerm, Sym, Term};
+use terms::{ArrayTerm, Changes, Sym, Term};
 
 // Each number of a step's pairs gets its value.
 pub(crate) fn bind_numbers(
@@ -68,5 +70,42 @@ pub(crate) fn unbind_arrays(values: &mut Bindings, step: usize, pairs: &[(Sym, A
 {
     for pair in pairs {
         values.unbind(&pair.0.base, step);
+    }
+}
+
+// A step more, in which names are replaced, with its values.
+pub(crate) fn add_changes(
+    alloc: Global,
+    steps: &mut Vec<Step>,
+    numbers: &mut Bindings,
+    arrays: &mut Bindings,
+    changes: Changes,
+) -> Result<(), AllocError>
+    ensures steps { OnOk result (steps.new.items ≡ steps.old.items ++ (step.Replaces changes ∷ [])) }
+    ensures numbers { OnOk result ((x : Bytes) →
+        values_of numbers.new x ≡ bound_by (length steps.old.items) 0 changes.numbers x (values_of numbers.old x)) }
+    ensures arrays { OnOk result ((x : Bytes) →
+        values_of arrays.new x ≡ bound_by (length steps.old.items) 0 changes.arrays x (values_of arrays.old x)) }
+{
+    let step = steps.len();
+    bind_numbers(numbers, alloc, step, changes.numbers.as_slice())?;
+    bind_arrays(arrays, alloc, step, changes.arrays.as_slice())?;
+    steps.push(Step::Replaces(changes))?;
+    Ok(())
+}
+
+// Takes the values of the step with this number away.
+pub(crate) fn forget(step: &Step, number: usize, numbers: &mut Bindings, arrays: &mut Bindings)
+    ensures numbers { (x : Bytes) →
+        values_of numbers.new x ≡ unbound_by number (numbers_of step.now) x (values_of numbers.old x) }
+    ensures arrays { (x : Bytes) →
+        values_of arrays.new x ≡ unbound_by number (arrays_of step.now) x (values_of arrays.old x) }
+{
+    match step {
+        Step::Replaces(changes) => {
+            unbind_numbers(numbers, number, changes.numbers.as_slice());
+            unbind_arrays(arrays, number, changes.arrays.as_slice());
+        }
+        Step::Assumes(_) => {}
     }
 }

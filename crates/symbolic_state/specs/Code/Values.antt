@@ -1,8 +1,9 @@
 -- What a name stands for at a step, by the values that it got before.
-use Rattle.std.specs.Prelude.{◌≡◌, ⊤, ℕ, suc, ◌<◌, nat_eq, bytes_eq, if◌then◌else◌, List, [], ◌∷◌, ◌++◌, length, find, slice_get, Option, Some, None}
+use Rattle.std.specs.Prelude.{◌≡◌, ⊤, ℕ, suc, ◌<◌, false, nat_eq, bytes_eq, if◌then◌else◌, List, [], ◌∷◌, ◌++◌, length, find, slice_get, Option, Some, None}
 use Rattle.std.specs.Option.{option_map}
 use Rattle.c_lang.specs.Names.{Bytes}
 use Rattle.terms.specs.declared.sym.Sym.{Sym}
+use Rattle.terms.specs.declared.changes.Changes.{Changes}
 use Rattle.terms.specs.Symbols.{same_sym}
 use Rattle.terms.specs.Trees.{TermTree, name, ArrayTree, array}
 use Rattle.terms.specs.Replacing.{Change, replaced_term, replaced_array}
@@ -13,7 +14,7 @@ use Rattle.symbolic_state.specs.declared.step.Step.{Step}
 use Rattle.symbolic_state.specs.declared.bindings.Binding.{Binding}
 use Rattle.symbolic_state.specs.Steps.{outermost}
 use Rattle.symbolic_state.specs.Code.Bindings.{bound as with_binding, unbound}
-use Rattle.symbolic_state.specs.Code.Joined.{change_of}
+use Rattle.symbolic_state.specs.Code.Joined.{change_of, GivesBound}
 
 -- the n-th step that was made, counted from 0
 abbrev pub step_at : List Step → ℕ → Option Step
@@ -125,6 +126,16 @@ abbrev pub AreCurrent : {T : Type 0} → List (Sym × T) → Type 0
 AreCurrent [] = ⊤
 AreCurrent (p ∷ ps) = (p.0.count ≡ 0) × AreCurrent ps
 
+abbrev pub IsCurrent : Changes → Type 0
+IsCurrent c = AreCurrent c.numbers × AreCurrent c.arrays
+
 abbrev pub ReplacesCurrent : List Step → Type 0
 ReplacesCurrent [] = ⊤
 ReplacesCurrent (s ∷ steps) = (AreCurrent (numbers_of s) × AreCurrent (arrays_of s)) × ReplacesCurrent steps
+
+-- a state's tables have the values of every name, and its steps are such as can be taken together
+pub record HasTables (steps : List Step) (of_numbers of_arrays : Bytes → List Binding) : Type 0 where
+  pub gives : GivesBound steps
+  pub names : ReplacesCurrent steps
+  pub numbers : (x : Bytes) → same_sym bound (current x) ≡ false → HasValues as_numbers steps x (of_numbers x)
+  pub arrays : (x : Bytes) → HasValues as_arrays steps x (of_arrays x)
