@@ -8,3 +8,6 @@ pub mod ChangeLaws
 pub mod PairLaws
 pub mod StepValues
 pub mod CurrentLaws
+pub mod NextLaws
+pub mod NameLaws
+pub mod AscentLaws
