@@ -11,3 +11,4 @@ pub mod CurrentLaws
 pub mod NextLaws
 pub mod NameLaws
 pub mod AscentLaws
+pub mod FoundLaws

@@ -1,7 +1,10 @@
-ghost use Rattle.std.specs.Prelude.{◌≡◌, [], ◌∷◌, ◌++◌, length, OnOk};
+ghost use Rattle.std.specs.Prelude.{◌≡◌, [], ◌∷◌, ◌++◌, length, slice_get, OnOk};
 ghost use Rattle.c_lang.specs.Names.{Bytes};
 ghost use Rattle.symbolic_state.specs.Code.Bindings.{values_of};
-ghost use Rattle.symbolic_state.specs.Code.Values.{bound_by, unbound_by, numbers_of, arrays_of};
+ghost use Rattle.symbolic_state.specs.Code.Values.{bound_by, unbound_by, numbers_of, arrays_of, pair_of, as_numbers, as_arrays};
+ghost use Rattle.std.specs.Option.{option_copied};
+ghost use Rattle.terms.specs.Symbols.{same_sym};
+ghost use Rattle.loop_invariants.specs.EntryNames as entry;
 ghost use Rattle.symbolic_state.specs.declared.step.Step.TheVariants as step;
 
 use crate::Step;
@@ -107,5 +110,58 @@ pub(crate) fn forget(step: &Step, number: usize, numbers: &mut Bindings, arrays:
             unbind_arrays(arrays, number, changes.arrays.as_slice());
         }
         Step::Assumes(_) => {}
+    }
+}
+
+// Whether the name is the one that a fact binds.
+pub(crate) fn is_bound(symbol: &Sym) -> bool
+    ensures { result ≡ same_sym symbol.now entry.bound }
+{
+    symbol.count == 0 && symbol.base.as_bytes() == b"$".as_slice()
+}
+
+// The number that a pair of a step gives.
+fn number_of(step: &Step, pair: usize) -> Option<&Term>
+    ensures { option_copied result ≡ as_numbers.pair step.now pair }
+{
+    match step {
+        Step::Replaces(changes) => match changes.numbers.as_slice().get(pair) {
+            Some(found) => Some(&found.1),
+            None => None,
+        },
+        Step::Assumes(_) => None,
+    }
+}
+
+// The array that a pair of a step gives.
+fn array_of(step: &Step, pair: usize) -> Option<&ArrayTerm>
+    ensures { option_copied result ≡ as_arrays.pair step.now pair }
+{
+    match step {
+        Step::Replaces(changes) => match changes.arrays.as_slice().get(pair) {
+            Some(found) => Some(&found.1),
+            None => None,
+        },
+        Step::Assumes(_) => None,
+    }
+}
+
+// The number that a pair of the step with this number gives.
+pub(crate) fn number_at(steps: &[Step], step: usize, pair: usize) -> Option<&Term>
+    ensures { option_copied result ≡ pair_of as_numbers (slice_get steps.now step) pair }
+{
+    match steps.get(step) {
+        Some(step) => number_of(step, pair),
+        None => None,
+    }
+}
+
+// The array that a pair of the step with this number gives.
+pub(crate) fn array_at(steps: &[Step], step: usize, pair: usize) -> Option<&ArrayTerm>
+    ensures { option_copied result ≡ pair_of as_arrays (slice_get steps.now step) pair }
+{
+    match steps.get(step) {
+        Some(step) => array_of(step, pair),
+        None => None,
     }
 }

@@ -6,17 +6,18 @@ ghost use Rattle.weakest_preconditions.specs.Changing.{change, setting, storing,
 ghost use Rattle.loop_invariants.specs.EntryNames.{result_base};
 ghost use Rattle.symbolic_state.specs.declared.step.Step.TheVariants as step;
 ghost use Rattle.symbolic_state.specs.Code.Values.{IsCurrent};
+ghost use Rattle.symbolic_state.specs.Code.Writing.{NumberAt, ArrayAt};
 ghost use Rattle.symbolic_state.specs.Steps.{finished, assumed, outermost, owed, without_sorts, IsMadeWithin};
 
 use crate::Step;
 use crate::bindings::Bindings;
 use crate::changes::{current, entering, one_array, one_number, passing, renewing, stored};
-use crate::pairs::{add_changes, forget};
+use crate::pairs::{add_changes, array_at, forget, is_bound, number_at};
 use c_lang::{Func, Name, Program};
 use name_tables::ProgramNames;
 use std::alloc::{AllocError, Global};
 use std::marker::Model;
-use terms::{Changes, Fact, Form, Label, Sequent, Sym, Term};
+use terms::{Changes, Fact, Form, Label, Node, Sequent, Sym, Term};
 
 /// What stands round a condition, which contracts see as steps, the innermost first. Every method that changes it
 /// adds steps, but for `cut_back`. The only error is want of memory, and after it nothing is known of the steps.
@@ -247,5 +248,42 @@ impl SymbolicState {
         ensures { IfOk result (λ made. IsMadeWithin room (without_sorts (finished self.now (owed hyps.now goal.now label))) made) }
     {
         Err(AllocError)
+    }
+
+    // The nodes of what a name stands for as a number, and how many steps count for them.
+    pub(crate) fn number_value(&self, symbol: &Sym, time: usize) -> Option<(&[Node], usize)>
+        ensures { NumberAt self.now time symbol.now result }
+    {
+        let steps = self.steps.as_slice();
+        if symbol.count != 0 {
+            return None;
+        }
+        if is_bound(symbol) {
+            return None;
+        }
+        let Some(binding) = self.numbers.latest(&symbol.base, time) else {
+            return None;
+        };
+        let Some(value) = number_at(steps, binding.source, binding.pair) else {
+            return None;
+        };
+        Some((value.nodes(), binding.source))
+    }
+
+    // The nodes of what a name stands for as an array, and how many steps count for them.
+    pub(crate) fn array_value(&self, symbol: &Sym, time: usize) -> Option<(&[Node], usize)>
+        ensures { ArrayAt self.now time symbol.now result }
+    {
+        let steps = self.steps.as_slice();
+        if symbol.count != 0 {
+            return None;
+        }
+        let Some(binding) = self.arrays.latest(&symbol.base, time) else {
+            return None;
+        };
+        let Some(value) = array_at(steps, binding.source, binding.pair) else {
+            return None;
+        };
+        Some((value.nodes(), binding.source))
     }
 }
