@@ -5,3 +5,10 @@ pub mod ValueLaws
 pub mod KindLaws
 pub mod WritingLaws
 pub mod ChangeLaws
+pub mod PairLaws
+pub mod StepValues
+pub mod CurrentLaws
+pub mod NextLaws
+pub mod NameLaws
+pub mod AscentLaws
+pub mod FoundLaws

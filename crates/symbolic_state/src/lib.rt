@@ -5,6 +5,7 @@
 mod bindings;
 mod changes;
 pub mod laws;
+mod pairs;
 mod state;
 mod step;
 

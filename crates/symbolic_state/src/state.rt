@@ -1,30 +1,40 @@
-ghost use Rattle.std.specs.Prelude.{◌≡◌, List, [], ◌∷◌, map, length, All, IfOk, OnOk};
+ghost use Rattle.std.specs.Prelude.{◌≡◌, List, [], ◌∷◌, map, length, drop, All, IfOk, OnOk};
 ghost use Rattle.terms.specs.declared.fact.Fact.TheVariants.{Plain};
 ghost use Rattle.terms.specs.Replacing.{replaced_fact};
 ghost use Rattle.loop_invariants.specs.Binding.{BindsBound};
 ghost use Rattle.weakest_preconditions.specs.Changing.{change, setting, storing, renewing, passing, returning, entering};
 ghost use Rattle.loop_invariants.specs.EntryNames.{result_base};
 ghost use Rattle.symbolic_state.specs.declared.step.Step.TheVariants as step;
+ghost use Rattle.symbolic_state.specs.Code.Values.{IsCurrent};
+ghost use Rattle.symbolic_state.specs.Code.Writing.{NumberAt, ArrayAt};
 ghost use Rattle.symbolic_state.specs.Steps.{finished, assumed, outermost, owed, without_sorts, IsMadeWithin};
 
 use crate::Step;
+use crate::bindings::Bindings;
 use crate::changes::{current, entering, one_array, one_number, passing, renewing, stored};
+use crate::pairs::{add_changes, array_at, forget, is_bound, number_at};
 use c_lang::{Func, Name, Program};
 use name_tables::ProgramNames;
 use std::alloc::{AllocError, Global};
 use std::marker::Model;
-use terms::{Changes, Fact, Form, Label, Sequent, Sym, Term};
+use terms::{Changes, Fact, Form, Label, Node, Sequent, Sym, Term};
 
 /// What stands round a condition, which contracts see as steps, the innermost first. Every method that changes it
 /// adds steps, but for `cut_back`. The only error is want of memory, and after it nothing is known of the steps.
 pub struct SymbolicState {
     steps: Vec<Step>,
+    numbers: Bindings,
+    arrays: Bindings,
 }
 
 // By hand, so that a proof has one step for each that is dropped.
 impl Drop for SymbolicState {
     fn drop(self) {
-        let SymbolicState { steps: _steps } = self;
+        let SymbolicState {
+            steps: _steps,
+            numbers: _numbers,
+            arrays: _arrays,
+        } = self;
     }
 }
 
@@ -38,7 +48,12 @@ impl Model for SymbolicState {
 
     ghost coded = { Prim.hlevel (codes, the_step.the_row.coded) };
 
+    ghost use Rattle.symbolic_state.specs.Code.Bindings.{values_of};
+    ghost use Rattle.symbolic_state.specs.Code.Values.{HasTables};
+
     ghost view = { λ s. reverse s.steps.items };
+
+    ghost invariant = { λ s. HasTables (reverse s.steps.items) (values_of s.numbers) (values_of s.arrays) };
 }
 
 impl SymbolicState {
@@ -48,15 +63,31 @@ impl SymbolicState {
     {
         SymbolicState {
             steps: Vec::new(alloc),
+            numbers: Bindings::new(alloc),
+            arrays: Bindings::new(alloc),
         }
     }
 
     // Adds a step in which names are replaced.
-    fn replace(&mut self, changes: Changes) -> Result<(), AllocError>
+    fn replace(&mut self, alloc: Global, changes: Changes) -> Result<(), AllocError>
+        requires { IsCurrent changes }
         ensures { OnOk result (self.new ≡ step.Replaces changes ∷ self.old) }
     {
-        self.steps.push(Step::Replaces(changes))?;
-        Ok(())
+        match add_changes(
+            alloc,
+            &mut self.steps,
+            &mut self.numbers,
+            &mut self.arrays,
+            changes,
+        ) {
+            Ok(()) => Ok(()),
+            Err(_) => {
+                self.steps.clear();
+                self.numbers = Bindings::new(alloc);
+                self.arrays = Bindings::new(alloc);
+                Err(AllocError)
+            }
+        }
     }
 
     // Adds a step in which a fact is given.
@@ -73,7 +104,7 @@ impl SymbolicState {
         ensures { OnOk result (self.new ≡ step.Replaces (setting name.now value.now) ∷ self.old) }
     {
         let name = current(alloc, name)?;
-        self.replace(one_number(alloc, name, value)?)
+        self.replace(alloc, one_number(alloc, name, value)?)
     }
 
     /// From here on the result of a function has this value. The only error is want of memory.
@@ -81,14 +112,17 @@ impl SymbolicState {
         ensures { OnOk result (self.new ≡ step.Replaces (setting result_base value.now) ∷ self.old) }
     {
         let name = Name::new(alloc, b"$r")?;
-        self.replace(one_number(
+        self.replace(
             alloc,
-            Sym {
-                base: name,
-                count: 0,
-            },
-            value,
-        )?)
+            one_number(
+                alloc,
+                Sym {
+                    base: name,
+                    count: 0,
+                },
+                value,
+            )?,
+        )
     }
 
     /// From here on the current array has the value at the index. The only error is want of memory.
@@ -102,14 +136,14 @@ impl SymbolicState {
         ensures { OnOk result (self.new ≡ step.Replaces (storing array.now index.now value.now) ∷ self.old) }
     {
         let stored = stored(alloc, array, index, value)?;
-        self.replace(one_array(alloc, current(alloc, array)?, stored)?)
+        self.replace(alloc, one_array(alloc, current(alloc, array)?, stored)?)
     }
 
     /// From here on each of these names stands for the current value of its base. The only error is want of memory.
     pub fn renew(&mut self, alloc: Global, fresh: &[Sym]) -> Result<(), AllocError>
         ensures { OnOk result (self.new ≡ step.Replaces (renewing fresh.now) ∷ self.old) }
     {
-        self.replace(renewing(alloc, fresh)?)
+        self.replace(alloc, renewing(alloc, fresh)?)
     }
 
     /// The function's body begins: each global and each parameter at entry is what it is now. The only error is want
@@ -118,14 +152,14 @@ impl SymbolicState {
         ensures { OnOk result (self.new
             ≡ step.Replaces (entering (map (λ g. g.name) program.now.globals) (map (λ p. p.1) func.now.params)) ∷ self.old) }
     {
-        self.replace(entering(alloc, program, func)?)
+        self.replace(alloc, entering(alloc, program, func)?)
     }
 
     /// From here on the parameters at entry have these values. The only error is want of memory.
     pub fn pass(&mut self, alloc: Global, args: &[Term]) -> Result<(), AllocError>
         ensures { OnOk result (self.new ≡ step.Replaces (passing args.now) ∷ self.old) }
     {
-        self.replace(passing(alloc, args)?)
+        self.replace(alloc, passing(alloc, args)?)
     }
 
     /// The fact is given. The only error is want of memory.
@@ -182,11 +216,22 @@ impl SymbolicState {
     }
 
     /// Takes back all steps but the first `mark` that were made. It takes no memory.
-    #[tactic(auto, using(crate::proofs::StepLaws::first_outermost))]
     pub fn cut_back(&mut self, mark: usize)
         ensures { self.new ≡ outermost mark self.old }
     {
-        self.steps.truncate(mark);
+        while self.mark() > mark {
+            self.take_back();
+        }
+    }
+
+    // Takes back the last step.
+    fn take_back(&mut self)
+        ensures { self.new ≡ drop 1 self.old }
+    {
+        if let Some(step) = self.steps.pop() {
+            let number = self.steps.len();
+            forget(&step, number, &mut self.numbers, &mut self.arrays);
+        }
     }
 
     /// The goal under these hypotheses, with all that stands round it, as a sequent without sorts; or nothing where
@@ -203,5 +248,42 @@ impl SymbolicState {
         ensures { IfOk result (λ made. IsMadeWithin room (without_sorts (finished self.now (owed hyps.now goal.now label))) made) }
     {
         Err(AllocError)
+    }
+
+    // The nodes of what a name stands for as a number, and how many steps count for them.
+    pub(crate) fn number_value(&self, symbol: &Sym, time: usize) -> Option<(&[Node], usize)>
+        ensures { NumberAt self.now time symbol.now result }
+    {
+        let steps = self.steps.as_slice();
+        if symbol.count != 0 {
+            return None;
+        }
+        if is_bound(symbol) {
+            return None;
+        }
+        let Some(binding) = self.numbers.latest(&symbol.base, time) else {
+            return None;
+        };
+        let Some(value) = number_at(steps, binding.source, binding.pair) else {
+            return None;
+        };
+        Some((value.nodes(), binding.source))
+    }
+
+    // The nodes of what a name stands for as an array, and how many steps count for them.
+    pub(crate) fn array_value(&self, symbol: &Sym, time: usize) -> Option<(&[Node], usize)>
+        ensures { ArrayAt self.now time symbol.now result }
+    {
+        let steps = self.steps.as_slice();
+        if symbol.count != 0 {
+            return None;
+        }
+        let Some(binding) = self.arrays.latest(&symbol.base, time) else {
+            return None;
+        };
+        let Some(value) = array_at(steps, binding.source, binding.pair) else {
+            return None;
+        };
+        Some((value.nodes(), binding.source))
     }
 }

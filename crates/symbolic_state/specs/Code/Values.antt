@@ -1,8 +1,9 @@
 -- What a name stands for at a step, by the values that it got before.
-use Rattle.std.specs.Prelude.{◌≡◌, ℕ, ◌<◌, nat_eq, if◌then◌else◌, List, [], ◌∷◌, ◌++◌, length, find, slice_get, Option, Some, None}
+use Rattle.std.specs.Prelude.{◌≡◌, ⊤, ℕ, suc, ◌<◌, false, nat_eq, bytes_eq, if◌then◌else◌, List, [], ◌∷◌, ◌++◌, length, find, slice_get, Option, Some, None}
 use Rattle.std.specs.Option.{option_map}
 use Rattle.c_lang.specs.Names.{Bytes}
 use Rattle.terms.specs.declared.sym.Sym.{Sym}
+use Rattle.terms.specs.declared.changes.Changes.{Changes}
 use Rattle.terms.specs.Symbols.{same_sym}
 use Rattle.terms.specs.Trees.{TermTree, name, ArrayTree, array}
 use Rattle.terms.specs.Replacing.{Change, replaced_term, replaced_array}
@@ -12,7 +13,8 @@ use Rattle.symbolic_state.specs.declared.step.Step.TheVariants as step
 use Rattle.symbolic_state.specs.declared.step.Step.{Step}
 use Rattle.symbolic_state.specs.declared.bindings.Binding.{Binding}
 use Rattle.symbolic_state.specs.Steps.{outermost}
-use Rattle.symbolic_state.specs.Code.Joined.{change_of}
+use Rattle.symbolic_state.specs.Code.Bindings.{bound as with_binding, unbound}
+use Rattle.symbolic_state.specs.Code.Joined.{change_of, GivesBound}
 
 -- the n-th step that was made, counted from 0
 abbrev pub step_at : List Step → ℕ → Option Step
@@ -102,3 +104,38 @@ as_arrays = record {
   put = replaced_array;
   start = λ x. array (current x);
 }
+
+-- ---- all pairs of a step
+
+-- the value that a pair of the n-th step gives
+abbrev pub own_value : ℕ → ℕ → Binding
+own_value n k = record { step = n; source = n; pair = k }
+
+-- with the values of the n-th step's pairs from the k-th on
+abbrev pub bound_by : {T : Type 0} → ℕ → ℕ → List (Sym × T) → Bytes → List Binding → List Binding
+bound_by n k [] x bs = bs
+bound_by n k (p ∷ ps) x bs = bound_by n (suc k) ps x (if bytes_eq p.0.base x then with_binding bs (own_value n k) else bs)
+
+-- without them
+abbrev pub unbound_by : {T : Type 0} → ℕ → List (Sym × T) → Bytes → List Binding → List Binding
+unbound_by n [] x bs = bs
+unbound_by n (p ∷ ps) x bs = unbound_by n ps x (if bytes_eq p.0.base x then unbound n bs else bs)
+
+-- only current values are replaced
+abbrev pub AreCurrent : {T : Type 0} → List (Sym × T) → Type 0
+AreCurrent [] = ⊤
+AreCurrent (p ∷ ps) = (p.0.count ≡ 0) × AreCurrent ps
+
+abbrev pub IsCurrent : Changes → Type 0
+IsCurrent c = AreCurrent c.numbers × AreCurrent c.arrays
+
+abbrev pub ReplacesCurrent : List Step → Type 0
+ReplacesCurrent [] = ⊤
+ReplacesCurrent (s ∷ steps) = (AreCurrent (numbers_of s) × AreCurrent (arrays_of s)) × ReplacesCurrent steps
+
+-- a state's tables have the values of every name, and its steps are such as can be taken together
+pub record HasTables (steps : List Step) (of_numbers of_arrays : Bytes → List Binding) : Type 0 where
+  pub gives : GivesBound steps
+  pub names : ReplacesCurrent steps
+  pub numbers : (x : Bytes) → same_sym bound (current x) ≡ false → HasValues as_numbers steps x (of_numbers x)
+  pub arrays : (x : Bytes) → HasValues as_arrays steps x (of_arrays x)
