@@ -1,5 +1,5 @@
 -- What a name stands for at a step, by the state's tables.
-use Rattle.std.proofs.Common.{◌≡◌, ℕ, Bool, true, false, List, [], ◌∷◌, reverse, slice_get, unwrap_or, Option, Some, None, Bor, refl, sym, ap, ◌∙◌, subst}
+use Rattle.std.proofs.Common.{◌≡◌, ℕ, Bool, true, false, List, reverse, slice_get, unwrap_or, Option, Some, None, Bor, refl, sym, ap, ◌∙◌, subst}
 use Rattle.c_lang.specs.Names.{Bytes}
 use Rattle.terms.specs.declared.sym.Sym.{Sym}
 use Rattle.terms.specs.declared.node.Node.{Node}
@@ -13,8 +13,8 @@ use Rattle.symbolic_state.specs.declared.step.Step.{Step}
 use Rattle.symbolic_state.specs.declared.bindings.Binding.{Binding}
 use Rattle.symbolic_state.specs.Steps.{outermost}
 use Rattle.symbolic_state.specs.Code.Bindings.{latest}
-use Rattle.symbolic_state.specs.Code.Values.{Kind, pair_of, step_at, Source, HasValues, IsFound, IsKind, as_numbers, as_arrays, HasTables}
-use Rattle.symbolic_state.specs.Code.Writing.{change_at, NumberAt, NumberStands, ArrayAt, ArrayStands}
+use Rattle.symbolic_state.specs.Code.Values.{Kind, pair_of, Source, HasValues, IsFound, IsKind, as_numbers, as_arrays, HasTables}
+use Rattle.symbolic_state.specs.Code.Writing.{change_at, NumberStands, ArrayStands}
 use Rattle.symbolic_state.proofs.FinishedLaws.{joined_keeps}
 use Rattle.symbolic_state.proofs.ValueLaws.{latest_found}
 use Rattle.symbolic_state.proofs.KindLaws.{numbers_are, arrays_are}

@@ -1,12 +1,12 @@
 -- Names that stand for themselves, and values that are found by their places.
-use Rattle.std.proofs.Common.{◌≡◌, ℕ, zero, suc, ◌+◌, ◌-◌, ◌<◌, ◌≤◌, ◌⊎◌, inl, inr, Bool, true, false, ◌&&◌, nat_eq, bytes_eq, find, if◌then◌else◌, unwrap_or, List, [], ◌∷◌, ◌++◌, length, reverse, slice_get, drop, Option, Some, None, refl, sym, ap, ap₂, ◌∙◌, subst, arith}
+use Rattle.std.proofs.Common.{◌≡◌, ℕ, zero, suc, ◌+◌, ◌-◌, Bool, true, false, ◌&&◌, nat_eq, bytes_eq, find, if◌then◌else◌, unwrap_or, List, [], ◌∷◌, ◌++◌, length, reverse, slice_get, drop, Some, None, refl, sym, ap, ap₂, ◌∙◌, arith}
 use Rattle.std.specs.Option.{option_map}
 use Rattle.std.proofs.lemmas.Bool.{ne_eqb, eq-eqb}
 use Rattle.std.proofs.lemmas.Bool.Decides.{Decides-eqb}
 use Rattle.std.proofs.lemmas.List.{length-append, reverse-append}
 use Rattle.terms.specs.declared.sym.Sym.{Sym}
 use Rattle.terms.specs.Symbols.{same_sym}
-use Rattle.terms.specs.Trees.{TermTree, name, ArrayTree, array}
+use Rattle.terms.specs.Trees.{name, array}
 use Rattle.terms.specs.Replacing.{replaced_term, replaced_array}
 use Rattle.loop_invariants.specs.EntryNames.{bound}
 use Rattle.symbolic_state.specs.declared.step.Step.{Step}

@@ -7,7 +7,7 @@ use Rattle.terms.specs.declared.node.NodeKind.{NodeKind}
 use Rattle.terms.specs.declared.node.NodeKind.TheVariants as kind
 use Rattle.terms.specs.Nodes.{node}
 use Rattle.terms.specs.Replacing.{Change}
-use Rattle.terms.specs.Code.Rewriting.{operands_size, put_operator, put_node, put_nodes}
+use Rattle.terms.specs.Code.Rewriting.{operands_size, put_operator, put_node}
 use Rattle.symbolic_state.specs.declared.step.Step.{Step}
 use Rattle.symbolic_state.specs.Code.Writing.{written, change_at, frame_of, written_in, NumberAt, ArrayAt, ValueAt}
 use Rattle.symbolic_state.proofs.WritingLaws.{number_stays, array_stays, into_number, into_array}

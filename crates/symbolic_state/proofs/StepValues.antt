@@ -1,11 +1,10 @@
 -- A step more, and a step less, with all its pairs.
-use Rattle.std.proofs.Common.{◌≡◌, ℕ, ◌+◌, Bool, true, false, ◌&&◌, nat_eq, find, bytes_eq, if◌then◌else◌, List, [], ◌∷◌, ◌++◌, length, reverse, slice_get, Option, Some, None, unwrap_or, refl, sym, ap, ap₂, ◌∙◌, subst, arith}
+use Rattle.std.proofs.Common.{◌≡◌, ℕ, ◌+◌, false, find, if◌then◌else◌, List, [], ◌∷◌, ◌++◌, length, reverse, slice_get, Option, Some, None, unwrap_or, refl, sym, ap, ◌∙◌, subst, arith}
 use Rattle.std.specs.Option.{option_map}
 use Rattle.std.proofs.lemmas.Bool.{eq-eqb}
 use Rattle.std.proofs.lemmas.List.{length-reverse, reverse-append}
 use Rattle.c_lang.specs.Names.{Bytes}
 use Rattle.terms.specs.declared.sym.Sym.{Sym}
-use Rattle.terms.specs.declared.changes.Changes.{Changes}
 use Rattle.terms.specs.Symbols.{same_sym}
 use Rattle.terms.specs.Trees.{TermTree, name, ArrayTree, array}
 use Rattle.terms.specs.Replacing.{replaced_term, replaced_array}
@@ -16,10 +15,10 @@ use Rattle.symbolic_state.specs.declared.step.Step.TheVariants as step
 use Rattle.symbolic_state.specs.declared.bindings.Binding.{Binding}
 use Rattle.symbolic_state.specs.Code.Bindings.{unbound}
 use Rattle.symbolic_state.specs.Code.Joined.{change_of, GivesBound}
-use Rattle.symbolic_state.specs.Code.Values.{step_at, Kind, pair_of, Source, EndsIn, Chosen, HasValues, as_numbers, as_arrays, own_value, bound_by, unbound_by, numbers_of, arrays_of, AreCurrent, HasTables}
+use Rattle.symbolic_state.specs.Code.Values.{step_at, Kind, pair_of, EndsIn, Chosen, HasValues, as_numbers, as_arrays, own_value, bound_by, unbound_by, numbers_of, arrays_of, AreCurrent, HasTables}
 use Rattle.symbolic_state.proofs.ValueLaws.{outer_less, outer_more}
 use Rattle.symbolic_state.proofs.ChangeLaws.{not_yet, taken_back}
-use Rattle.symbolic_state.proofs.PairLaws.{At, bound_none, bound_some, unbound_none, unbound_some}
+use Rattle.symbolic_state.proofs.PairLaws.{bound_none, bound_some, unbound_none, unbound_some}
 
 abbrev first : {T : Type 0} → Bytes → List (Sym × T) → Option (Sym × T)
 first x ps = find (λ p. same_sym p.0 (current x)) ps

@@ -6,9 +6,9 @@ use Rattle.terms.specs.declared.node.Node.{Node}
 use Rattle.terms.specs.declared.node.NodeKind.{NodeKind}
 use Rattle.terms.specs.declared.node.NodeKind.TheVariants as kind
 use Rattle.terms.specs.Trees.{TermTree, name, ArrayTree, array}
-use Rattle.terms.specs.Nodes.{node, term_nodes, array_nodes}
+use Rattle.terms.specs.Nodes.{term_nodes, array_nodes}
 use Rattle.terms.specs.Replacing.{Change, replaced_term, replaced_array}
-use Rattle.terms.specs.Code.Rewriting.{put_operator, put_nodes}
+use Rattle.terms.specs.Code.Rewriting.{put_nodes}
 use Rattle.symbolic_state.specs.declared.step.Step.{Step}
 use Rattle.symbolic_state.specs.Steps.{outermost}
 use Rattle.symbolic_state.specs.Code.Joined.{change_of}

@@ -1,13 +1,10 @@
-use Rattle.std.proofs.Common.{◌≡◌, true, false, reverse, slice_get, Some, None, refl, sym, subst, ◌∙◌, rules}
-use Rattle.terms.specs.Symbols.{same_sym}
+use Rattle.std.proofs.Common.{◌≡◌, reverse, slice_get, Some, None, refl, subst, rules}
 use Rattle.terms.specs.Trees.{array}
-use Rattle.terms.specs.Nodes.{array_nodes}
-use Rattle.loop_invariants.specs.EntryNames.{bound}
 use Rattle.symbolic_state.specs.Code.Bindings.{values_of, latest}
 use Rattle.symbolic_state.specs.Code.Values.{pair_of, as_arrays}
 use Rattle.symbolic_state.specs.Code.Writing.{change_at, ArrayStands}
 use Rattle.symbolic_state.proofs.AscentLaws.{ascending}
-use Rattle.symbolic_state.proofs.FoundLaws.{not_bound, array_counted, array_stays, array_there, array_stands}
+use Rattle.symbolic_state.proofs.FoundLaws.{array_counted, array_stays, array_there, array_stands}
 use Rattle.symbolic_state.proofs.state.SymbolicState.array_value.Goals as goal
 
 pub returns-then-symbol-ne0 : goal.returns-then-symbol-ne0

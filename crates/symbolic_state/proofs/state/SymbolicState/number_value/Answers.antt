@@ -1,7 +1,6 @@
-use Rattle.std.proofs.Common.{◌≡◌, true, false, reverse, slice_get, Some, None, refl, sym, subst, ◌∙◌, rules}
+use Rattle.std.proofs.Common.{◌≡◌, false, reverse, slice_get, Some, None, refl, sym, subst, ◌∙◌, rules}
 use Rattle.terms.specs.Symbols.{same_sym}
 use Rattle.terms.specs.Trees.{name}
-use Rattle.terms.specs.Nodes.{term_nodes}
 use Rattle.loop_invariants.specs.EntryNames.{bound}
 use Rattle.symbolic_state.specs.Code.Bindings.{values_of, latest}
 use Rattle.symbolic_state.specs.Code.Values.{pair_of, as_numbers}
