@@ -1,12 +1,13 @@
 ghost use Rattle.std.specs.Prelude.{◌≡◌, [], ◌∷◌, IfOk, OnOk};
-ghost use Rattle.terms.specs.Replacing.{replaced_term, replaced_form};
+ghost use Rattle.terms.specs.Replacing.{replaced_term, replaced_form, replaced_fact};
+ghost use Rattle.loop_invariants.specs.Binding.{BindsBound};
 ghost use Rattle.terms.specs.Code.Rewriting.{put_nodes};
 ghost use Rattle.symbolic_state.specs.Code.Writing.{change_at, written_in, ValueAt};
 
 use crate::SymbolicState;
 use std::alloc::{AllocError, Global};
 use terms::build::put_operator;
-use terms::{Form, Node, NodeKind, Term};
+use terms::{Fact, Form, Node, NodeKind, Term};
 
 // The nodes that come in place of a node, and how many steps count for them, if it is a name that stands for something.
 fn value_of<'a>(
@@ -110,4 +111,30 @@ pub(crate) fn finished_term(
     ensures { IfOk result (λ made. made ≡ replaced_term (change_at state.now time) term.now) }
 {
     Ok(Term::from_nodes(write(state, alloc, term.nodes(), time)?))
+}
+
+/// The fact with what its names stand for behind the first steps.
+pub(crate) fn finished_fact(
+    state: &SymbolicState,
+    alloc: Global,
+    fact: &Fact,
+    time: usize,
+) -> Result<Fact, AllocError>
+    requires { BindsBound fact.now }
+    ensures { IfOk result (λ made. made ≡ replaced_fact (change_at state.now time) fact.now) }
+{
+    match fact {
+        Fact::Plain(form) => Ok(Fact::Plain(finished_form(state, alloc, form, time)?)),
+        Fact::All { var, lo, hi, body } => {
+            let lo = finished_term(state, alloc, lo, time)?;
+            let hi = finished_term(state, alloc, hi, time)?;
+            let body = finished_form(state, alloc, body, time)?;
+            Ok(Fact::All {
+                var: var.copy(alloc)?,
+                lo,
+                hi,
+                body,
+            })
+        }
+    }
 }
