@@ -12,3 +12,4 @@ pub mod NextLaws
 pub mod NameLaws
 pub mod AscentLaws
 pub mod FoundLaws
+pub mod GivenLaws

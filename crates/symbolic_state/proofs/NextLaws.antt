@@ -1,5 +1,5 @@
 -- What comes next, in place of a node.
-use Rattle.std.proofs.Common.{◌≡◌, ℕ, List, [], ◌∷◌, ◌++◌, map, reverse, Option, Some, None, Bor, refl, sym, ap, ◌∙◌, subst}
+use Rattle.std.proofs.Common.{◌≡◌, ℕ, List, [], ◌∷◌, ◌++◌, map, reverse, length, Option, Some, None, Bor, refl, sym, ap, ◌∙◌, subst, arith}
 use Rattle.std.proofs.lemmas.List.{reverse-append}
 use Rattle.terms.specs.declared.sym.Sym.{Sym}
 use Rattle.terms.specs.declared.node.Node.{Node}
@@ -61,3 +61,32 @@ module _ (steps : List Step) (n : ℕ) (out rest : List Node) (size : ℕ) (fram
 pub part_next : (steps : List Step) (out : List Node) (parts : List Part) (part : Part)
     → written_in steps out (parts ++ (part ∷ [])) ≡ written out (frame_of steps part ∷ map (frame_of steps) (reverse parts))
 part_next steps out parts part = ap (λ ps. written out (map (frame_of steps) ps)) (reverse-append parts (part ∷ []))
+
+pub turn_end : (steps : List Step) (out : List Node) (old parts : List Part) (part : Part) → old ≡ parts ++ (part ∷ []) → part.0.now ≡ []
+    → written_in steps out parts ≡ written_in steps out old
+turn_end steps out old parts part whole empty = sym (ap (written_in steps out) whole ∙ part_next steps out parts part
+    ∙ ap (λ ns. written out ((change_at steps part.1, ns) ∷ map (frame_of steps) (reverse parts))) empty)
+
+module _ (steps : List Step) (out : List Node) (old parts : List Part) (part : Part) (head : Node) (rest : Bor (List Node))
+    (whole : old ≡ parts ++ (part ∷ [])) (nodes : part.0.now ≡ head ∷ rest.now) where
+  abbrev left : List Part
+  left = parts ++ ((rest, part.1) ∷ [])
+
+  before : (o : Option Part) → ValueAt steps part.1 head.kind o → written_in steps out old ≡ continued steps part.1 out rest.now head.size (map (frame_of steps) (reverse parts)) head.kind o
+  before o value = ap (written_in steps out) whole ∙ part_next steps out parts part
+      ∙ ap (λ ns. written out ((change_at steps part.1, ns) ∷ map (frame_of steps) (reverse parts))) nodes
+      ∙ goes steps part.1 out rest.now head.size (map (frame_of steps) (reverse parts)) head.kind o value
+
+  pub turn_into : (v : Part) → ValueAt steps part.1 head.kind (Some v) → written_in steps out ((parts ++ ((rest, part.1) ∷ [])) ++ (v ∷ [])) ≡ written_in steps out old
+  turn_into v value = part_next steps out left v
+      ∙ ap (λ ps. written out (frame_of steps v ∷ map (frame_of steps) ps)) (reverse-append parts ((rest, part.1) ∷ []))
+      ∙ sym (before (Some v) value)
+
+  pub turn_on : ValueAt steps part.1 head.kind None → (new : List Node) → new ≡ put_operator out head.kind → written_in steps new (parts ++ ((rest, part.1) ∷ [])) ≡ written_in steps out old
+  turn_on value new put = part_next steps new parts (rest, part.1)
+      ∙ ap (λ ns. written ns (frame_of steps (rest, part.1) ∷ map (frame_of steps) (reverse parts))) put
+      ∙ sym (before None value)
+
+pub nothing_left : {X : Type 0} (xs : List X) → length xs ≡ 0 → xs ≡ []
+nothing_left [] e = refl
+nothing_left (x ∷ xs) e = let never : ⊥ = omega (arith, e) in absurd never

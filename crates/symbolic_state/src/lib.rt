@@ -8,6 +8,7 @@ pub mod laws;
 mod pairs;
 mod state;
 mod step;
+mod writing;
 
 pub use state::SymbolicState;
 pub use step::Step;

@@ -1,4 +1,4 @@
-ghost use Rattle.std.specs.Prelude.{◌≡◌, List, [], ◌∷◌, map, length, drop, All, IfOk, OnOk};
+ghost use Rattle.std.specs.Prelude.{◌≡◌, ◌<◌, ◌+◌, List, [], ◌∷◌, map, length, drop, All, IfOk, OnOk};
 ghost use Rattle.terms.specs.declared.fact.Fact.TheVariants.{Plain};
 ghost use Rattle.terms.specs.Replacing.{replaced_fact};
 ghost use Rattle.loop_invariants.specs.Binding.{BindsBound};
@@ -6,6 +6,7 @@ ghost use Rattle.weakest_preconditions.specs.Changing.{change, setting, storing,
 ghost use Rattle.loop_invariants.specs.EntryNames.{result_base};
 ghost use Rattle.symbolic_state.specs.declared.step.Step.TheVariants as step;
 ghost use Rattle.symbolic_state.specs.Code.Values.{IsCurrent};
+ghost use Rattle.symbolic_state.specs.Code.Joined.{given_of};
 ghost use Rattle.symbolic_state.specs.Code.Writing.{NumberAt, ArrayAt};
 ghost use Rattle.symbolic_state.specs.Steps.{finished, assumed, outermost, owed, without_sorts, IsMadeWithin};
 
@@ -13,6 +14,7 @@ use crate::Step;
 use crate::bindings::Bindings;
 use crate::changes::{current, entering, one_array, one_number, passing, renewing, stored};
 use crate::pairs::{add_changes, array_at, forget, is_bound, number_at};
+use crate::writing::finished_fact;
 use c_lang::{Func, Name, Program};
 use name_tables::ProgramNames;
 use std::alloc::{AllocError, Global};
@@ -285,5 +287,34 @@ impl SymbolicState {
             return None;
         };
         Some((value.nodes(), binding.source))
+    }
+
+    // The fact that the step with this number gives, with what its names stand for there.
+    fn give(&self, alloc: Global, number: usize, facts: &mut Vec<Fact>) -> Result<(), AllocError>
+        requires { number < length self.now }
+        ensures { OnOk result (facts.old.items ≡ given_of (outermost number self.now)
+            → facts.new.items ≡ given_of (outermost (number + 1) self.now)) }
+    {
+        match &self.steps[number] {
+            Step::Replaces(_) => Ok(()),
+            Step::Assumes(fact) => {
+                facts.push(finished_fact(self, alloc, fact, number)?)?;
+                Ok(())
+            }
+        }
+    }
+
+    // The facts that the steps give, with what their names stand for.
+    #[tactic(auto, using(crate::proofs::GivenLaws::given_first, crate::proofs::GivenLaws::given_last))]
+    pub(crate) fn given_facts(&self, alloc: Global) -> Result<Vec<Fact>, AllocError>
+        ensures { IfOk result (λ made. made.items ≡ given_of self.now) }
+    {
+        let mut facts = Vec::new(alloc);
+        let mut number = 0;
+        while number < self.mark() {
+            self.give(alloc, number, &mut facts)?;
+            number += 1;
+        }
+        Ok(facts)
     }
 }

@@ -1,0 +1,15 @@
+use Rattle.std.proofs.Common.{◌≡◌, [], ◌∷◌, ◌++◌, length, sym, ap, ◌∙◌, rules}
+use Rattle.symbolic_state.specs.Code.Writing.{written_in}
+use Rattle.symbolic_state.proofs.NextLaws.{nothing_left}
+use Rattle.symbolic_state.proofs.writing.write.Goals as goal
+
+pub loop-init : goal.loop-init
+loop-init c =
+    let out : c.new-out.result.items ≡ [] = search rules in
+    let parts : c.push.new.self.items ≡ (c.args.nodes, c.args.time) ∷ [] = c.in_ok-push.ensures.items ∙ ap (λ ps. ps ++ ((c.args.nodes, c.args.time) ∷ [])) c.new-parts.ensures.items in
+    ap (λ ps. written_in c.args.state.now c.new-out.result.items ps) parts ∙ ap (λ ns. written_in c.args.state.now ns ((c.args.nodes, c.args.time) ∷ [])) out
+
+pub returns-then-is_empty : goal.returns-then-is_empty
+returns-then-is_empty c =
+    let empty : length c.loop.parts.items ≡ 0 = search rules in
+    sym (ap (written_in c.args.state.now c.loop.out.items) (nothing_left c.loop.parts.items empty)) ∙ c.loop.invariant
