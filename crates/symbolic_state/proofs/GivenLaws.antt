@@ -1,6 +1,6 @@
 -- The facts that the steps give, one step after the other.
 use Rattle.std.proofs.Common.{◌≡◌, ℕ, zero, suc, ◌+◌, ◌-◌, ◌<◌, ◌≤◌, List, [], ◌∷◌, ◌++◌, length, take, reverse, drop, slice_index_or, refl, sym, ap, ◌∙◌, subst, arith}
-use Rattle.std.proofs.lemmas.List.{length-reverse, reverse-append, take_more}
+use Rattle.std.proofs.lemmas.List.{reverse-append, take_more}
 use Rattle.terms.specs.declared.sym.Sym.{Sym}
 use Rattle.terms.specs.declared.fact.Fact.{Fact}
 use Rattle.terms.specs.declared.fact.Fact.TheVariants as fact

@@ -1,4 +1,4 @@
-use Rattle.std.proofs.Common.{◌≡◌, [], ◌∷◌, ◌++◌, Some, ap, ◌∙◌, rules}
+use Rattle.std.proofs.Common.{◌≡◌, [], ◌∷◌, ◌++◌, ap, ◌∙◌, rules}
 use Rattle.terms.specs.Code.Rewriting.{put_operator}
 use Rattle.symbolic_state.specs.Code.Writing.{written_in}
 use Rattle.symbolic_state.proofs.NextLaws.{turn_into, turn_on}
