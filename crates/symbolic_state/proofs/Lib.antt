@@ -1,5 +1,6 @@
 pub mod StepLaws
 pub mod BindingLaws
+pub mod FinishLaws
 pub mod FinishedLaws
 pub mod ValueLaws
 pub mod KindLaws

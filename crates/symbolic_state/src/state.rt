@@ -1,4 +1,4 @@
-ghost use Rattle.std.specs.Prelude.{◌≡◌, ◌<◌, ◌+◌, List, [], ◌∷◌, map, length, drop, All, IfOk, OnOk};
+ghost use Rattle.std.specs.Prelude.{◌≡◌, ◌<◌, ◌+◌, ◌++◌, List, [], ◌∷◌, map, length, drop, All, IfOk, OnOk};
 ghost use Rattle.terms.specs.declared.fact.Fact.TheVariants.{Plain};
 ghost use Rattle.terms.specs.Replacing.{replaced_fact};
 ghost use Rattle.loop_invariants.specs.Binding.{BindsBound};
@@ -6,17 +6,18 @@ ghost use Rattle.weakest_preconditions.specs.Changing.{change, setting, storing,
 ghost use Rattle.loop_invariants.specs.EntryNames.{result_base};
 ghost use Rattle.symbolic_state.specs.declared.step.Step.TheVariants as step;
 ghost use Rattle.symbolic_state.specs.Code.Values.{IsCurrent};
-ghost use Rattle.symbolic_state.specs.Code.Joined.{given_of};
-ghost use Rattle.symbolic_state.specs.Code.Writing.{NumberAt, ArrayAt};
+ghost use Rattle.symbolic_state.specs.Code.Joined.{given_of, GivesBound};
+ghost use Rattle.symbolic_state.specs.Code.Writing.{NumberAt, ArrayAt, change_at, finished_forms};
 ghost use Rattle.symbolic_state.specs.Steps.{finished, assumed, outermost, owed, without_sorts, IsMadeWithin};
 
 use crate::Step;
 use crate::bindings::Bindings;
 use crate::changes::{current, entering, one_array, one_number, passing, renewing, stored};
 use crate::pairs::{add_changes, array_at, forget, is_bound, number_at};
-use crate::writing::finished_fact;
+use crate::writing::{finished_fact, put_forms};
 use c_lang::{Func, Name, Program};
 use name_tables::ProgramNames;
+use sqlite_items::Items;
 use std::alloc::{AllocError, Global};
 use std::marker::Model;
 use terms::{Changes, Fact, Form, Label, Node, Sequent, Sym, Term};
@@ -236,8 +237,47 @@ impl SymbolicState {
         }
     }
 
+    // Each fact that a step gives binds the one bound name.
+    fn gives_bound(&self)
+        ensures { GivesBound self.now }
+    {
+        let _steps = self.steps.as_slice();
+    }
+
+    // What is given, and these forms, with what their names stand for.
+    fn finished_hyps(&self, alloc: Global, hyps: &[Form]) -> Result<Items<Fact>, AllocError>
+        ensures { IfOk result (λ made. made ≡ given_of self.now ++ finished_forms (change_at self.now (length self.now)) hyps.now) }
+    {
+        let mut facts = self.given_facts(alloc)?;
+        put_forms(self, alloc, &mut facts, hyps, self.mark())?;
+        Ok(Items::from_vec(facts))
+    }
+
+    // The condition with all that stands round it.
+    #[tactic(auto, using(crate::proofs::FinishLaws::is_finished))]
+    fn whole(
+        &self,
+        alloc: Global,
+        hyps: &[Form],
+        goal: &Fact,
+        label: Label,
+    ) -> Result<Sequent, AllocError>
+        requires { BindsBound goal.now }
+        ensures { IfOk result (λ made. made ≡ without_sorts (finished self.now (owed hyps.now goal.now label))) }
+    {
+        self.gives_bound();
+        let hyps = self.finished_hyps(alloc, hyps)?;
+        Ok(Sequent {
+            sorts: Items::new(alloc),
+            hyps,
+            goal: finished_fact(self, alloc, goal, self.mark())?,
+            label,
+        })
+    }
+
     /// The goal under these hypotheses, with all that stands round it, as a sequent without sorts; or nothing where
-    /// it is larger than `room`, which is known as soon as so much of it is made. The only error is want of memory.
+    /// it is larger than `room`. The only error is want of memory, which a sequent of 2^64 - 1 facts, forms, terms
+    /// and arrays or more is, too.
     pub fn finish(
         &self,
         alloc: Global,
@@ -249,7 +289,8 @@ impl SymbolicState {
         requires { BindsBound goal.now }
         ensures { IfOk result (λ made. IsMadeWithin room (without_sorts (finished self.now (owed hyps.now goal.now label))) made) }
     {
-        Err(AllocError)
+        let made = self.whole(alloc, hyps, goal, label)?;
+        within(made, room)
     }
 
     // The nodes of what a name stands for as a number, and how many steps count for them.
@@ -316,5 +357,20 @@ impl SymbolicState {
             number += 1;
         }
         Ok(facts)
+    }
+}
+
+// The sequent, if it isn't larger than the room.
+fn within(sequent: Sequent, room: u64) -> Result<Option<Sequent>, AllocError>
+    ensures { IfOk result (λ made. IsMadeWithin room sequent made) }
+{
+    let size = sequent.size() as u64;
+    if size == u64::MAX {
+        return Err(AllocError);
+    }
+    if size <= room {
+        Ok(Some(sequent))
+    } else {
+        Ok(None)
     }
 }

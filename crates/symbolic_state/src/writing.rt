@@ -1,8 +1,8 @@
-ghost use Rattle.std.specs.Prelude.{◌≡◌, [], ◌∷◌, IfOk, OnOk};
+ghost use Rattle.std.specs.Prelude.{◌≡◌, ◌++◌, [], ◌∷◌, IfOk, OnOk};
 ghost use Rattle.terms.specs.Replacing.{replaced_term, replaced_form, replaced_fact};
 ghost use Rattle.loop_invariants.specs.Binding.{BindsBound};
 ghost use Rattle.terms.specs.Code.Rewriting.{put_nodes};
-ghost use Rattle.symbolic_state.specs.Code.Writing.{change_at, written_in, ValueAt};
+ghost use Rattle.symbolic_state.specs.Code.Writing.{change_at, written_in, ValueAt, finished_forms};
 
 use crate::SymbolicState;
 use std::alloc::{AllocError, Global};
@@ -99,6 +99,22 @@ pub(crate) fn finished_form(
     ensures { IfOk result (λ made. made ≡ replaced_form (change_at state.now time) form.now) }
 {
     Ok(Form::from_nodes(write(state, alloc, form.nodes(), time)?))
+}
+
+/// Adds the forms as facts, with what their names stand for behind the first steps.
+pub(crate) fn put_forms(
+    state: &SymbolicState,
+    alloc: Global,
+    facts: &mut Vec<Fact>,
+    forms: &[Form],
+    time: usize,
+) -> Result<(), AllocError>
+    ensures { OnOk result (facts.new.items ≡ facts.old.items ++ finished_forms (change_at state.now time) forms.now) }
+{
+    for form in forms {
+        facts.push(Fact::Plain(finished_form(state, alloc, form, time)?))?;
+    }
+    Ok(())
 }
 
 /// The term with what its names stand for behind the first steps.

@@ -5,9 +5,11 @@ use Rattle.terms.specs.declared.sym.Sym.{Sym}
 use Rattle.terms.specs.declared.node.Node.{Node}
 use Rattle.terms.specs.declared.node.NodeKind.{NodeKind}
 use Rattle.terms.specs.declared.node.NodeKind.TheVariants as kind
-use Rattle.terms.specs.Trees.{TermTree, name, ArrayTree, array}
+use Rattle.terms.specs.declared.fact.Fact.{Fact}
+use Rattle.terms.specs.declared.fact.Fact.TheVariants as fact
+use Rattle.terms.specs.Trees.{TermTree, name, ArrayTree, array, FormTree}
 use Rattle.terms.specs.Nodes.{term_nodes, array_nodes}
-use Rattle.terms.specs.Replacing.{Change, replaced_term, replaced_array}
+use Rattle.terms.specs.Replacing.{Change, replaced_term, replaced_array, replaced_form}
 use Rattle.terms.specs.Code.Rewriting.{put_nodes}
 use Rattle.symbolic_state.specs.declared.step.Step.{Step}
 use Rattle.symbolic_state.specs.Steps.{outermost}
@@ -21,6 +23,10 @@ written out (frame ∷ frames) = written (put_nodes frame.0 out frame.1) frames
 -- the change of the first n steps
 abbrev pub change_at : List Step → ℕ → Change
 change_at steps n = change_of (outermost n steps)
+
+-- forms that are given, with what their names stand for
+abbrev pub finished_forms : Change → List FormTree → List Fact
+finished_forms c hyps = map (λ h. fact.Plain (replaced_form c h)) hyps
 
 -- nodes, and how many steps count for them
 abbrev pub frame_of : List Step → Bor (List Node) × ℕ → Change × List Node
