@@ -23,7 +23,7 @@ notes [] = end
 notes (t ∷ ts) = next t (notes ts)
 
 abbrev pub noted_step : Annotated-F Noted → Noted
-noted_step a = noted (statement_of a.stmt.now) (notes a.first) (notes a.second) a.invariants.now a.outcome a.fresh
+noted_step a = noted (statement_of a.stmt.now) (notes a.first) (notes a.second) a.invariants a.outcome a.fresh
 
 abbrev pub noted_of : code.Annotated → Noted
 noted_of = fold-Annotated Noted noted_step

@@ -1,6 +1,7 @@
 use c_lang::Stmt;
+use loop_invariants::Facts;
 use sqlite_items::Items;
-use terms::{Fact, Sym};
+use terms::Sym;
 
 /// A statement with what its conditions need: a loop's invariants, and the fresh names that a loop, a call, an input
 /// or a choice gives. Where a statement has no such parts, the fields are empty.
@@ -11,7 +12,7 @@ pub struct Annotated<'p> {
     pub first: Items<Annotated<'p>>,
     /// What runs where an `if`'s condition doesn't hold.
     pub second: Items<Annotated<'p>>,
-    pub invariants: &'p [Fact],
+    pub invariants: Facts<'p>,
     /// The fresh name of a call's result, if it has one.
     pub outcome: Items<Sym>,
     /// The fresh names of what the statement changes, a call's result aside.

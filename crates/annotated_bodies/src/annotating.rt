@@ -13,6 +13,7 @@ use crate::place::Place;
 use crate::sets::{add_dest, add_sets_in};
 use crate::{Annotated, Context};
 use c_lang::{Dest, Name, Stmt};
+use loop_invariants::Facts;
 use sqlite_items::Items;
 use std::alloc::{AllocError, Global};
 use terms::Sym;
@@ -25,7 +26,7 @@ fn plain<'c>(alloc: Global, stmt: &'c Stmt) -> Annotated<'c>
         stmt,
         first: Items::new(alloc),
         second: Items::new(alloc),
-        invariants: &[],
+        invariants: Facts::none(),
         outcome: Items::new(alloc),
         fresh: Items::new(alloc),
     }
@@ -43,7 +44,7 @@ fn giving<'c>(
         stmt,
         first: Items::new(alloc),
         second: Items::new(alloc),
-        invariants: &[],
+        invariants: Facts::none(),
         outcome,
         fresh,
     }
@@ -164,7 +165,7 @@ fn if_else<'c>(
         stmt,
         first,
         second,
-        invariants: &[],
+        invariants: Facts::none(),
         outcome: Items::new(alloc),
         fresh: Items::new(alloc),
     })
@@ -195,7 +196,7 @@ fn while_loop<'c>(
     let fresh = place.fresh(alloc, &bases)?;
     place.renew(alloc, &bases)?;
     place.begin_loop()?;
-    let invariants = context.hints().invariants(func, place.loops());
+    let invariants = context.hints().loop_facts(func, place.loops());
     let first = annotated_all(alloc, context, func, place, turn)?;
     Ok(Annotated {
         stmt,

@@ -1,3 +1,4 @@
+pub mod BindingLaws
 pub mod EntryTexts
 pub mod Examples
 pub mod Operands

@@ -4,7 +4,9 @@
 mod adding;
 mod clauses;
 mod copy;
+mod facts;
 mod hints;
 mod loops;
 
+pub use facts::Facts;
 pub use hints::{Contract, Hints};

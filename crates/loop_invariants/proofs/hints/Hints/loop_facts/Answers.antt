@@ -1,0 +1,7 @@
+use Rattle.std.proofs.Common.{All, sym, subst}
+use Rattle.loop_invariants.specs.Binding.{BindsBound}
+use Rattle.loop_invariants.proofs.BindingLaws.{invariants_bind}
+use Rattle.loop_invariants.proofs.hints.Hints.loop_facts.Goals as goal
+
+pub invariant_of-result : goal.invariant_of-result
+invariant_of-result c = subst (All BindsBound) (sym c.invariants.ensures) (invariants_bind c.args.self.now c.args.func.now c.args.number c.binds.ensures)
