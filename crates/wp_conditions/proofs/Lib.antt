@@ -1,0 +1,2 @@
+pub mod GrowingLaws
+pub mod EdgeLaws
