@@ -3,7 +3,6 @@
 #![tactic(auto)]
 
 mod bindings;
-mod changes;
 pub mod laws;
 mod pairs;
 mod state;

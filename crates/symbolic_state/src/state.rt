@@ -1,7 +1,7 @@
 ghost use Rattle.std.specs.Prelude.{◌≡◌, ◌<◌, ◌+◌, ◌++◌, List, [], ◌∷◌, map, length, drop, All, IfOk, OnOk};
 ghost use Rattle.terms.specs.declared.fact.Fact.TheVariants.{Plain};
-ghost use Rattle.terms.specs.Replacing.{replaced_fact};
-ghost use Rattle.loop_invariants.specs.Binding.{BindsBound};
+ghost use Rattle.terms.specs.Replacing.{change_in, replaced_fact};
+ghost use Rattle.loop_invariants.specs.Binding.{BindsBound, KeepsBound};
 ghost use Rattle.weakest_preconditions.specs.Changing.{change, setting, storing, renewing, passing, returning, entering};
 ghost use Rattle.loop_invariants.specs.EntryNames.{result_base};
 ghost use Rattle.symbolic_state.specs.declared.step.Step.TheVariants as step;
@@ -12,10 +12,12 @@ ghost use Rattle.symbolic_state.specs.Steps.{finished, assumed, outermost, owed,
 
 use crate::Step;
 use crate::bindings::Bindings;
-use crate::changes::{current, entering, one_array, one_number, passing, renewing, stored};
 use crate::pairs::{add_changes, array_at, forget, is_bound, number_at};
 use crate::writing::{finished_fact, put_forms};
 use c_lang::{Func, Name, Program};
+use name_changes::{
+    changed_fact, entering, passing, renewing, returning, setting, setting_result, storing,
+};
 use name_tables::ProgramNames;
 use sqlite_items::Items;
 use std::alloc::{AllocError, Global};
@@ -106,26 +108,14 @@ impl SymbolicState {
     pub fn set(&mut self, alloc: Global, name: &Name, value: &Term) -> Result<(), AllocError>
         ensures { OnOk result (self.new ≡ step.Replaces (setting name.now value.now) ∷ self.old) }
     {
-        let name = current(alloc, name)?;
-        self.replace(alloc, one_number(alloc, name, value)?)
+        self.replace(alloc, setting(alloc, name, value)?)
     }
 
     /// From here on the result of a function has this value. The only error is want of memory.
     pub fn set_result(&mut self, alloc: Global, value: &Term) -> Result<(), AllocError>
         ensures { OnOk result (self.new ≡ step.Replaces (setting result_base value.now) ∷ self.old) }
     {
-        let name = Name::new(alloc, b"$r")?;
-        self.replace(
-            alloc,
-            one_number(
-                alloc,
-                Sym {
-                    base: name,
-                    count: 0,
-                },
-                value,
-            )?,
-        )
+        self.replace(alloc, setting_result(alloc, value)?)
     }
 
     /// From here on the current array has the value at the index. The only error is want of memory.
@@ -138,8 +128,7 @@ impl SymbolicState {
     ) -> Result<(), AllocError>
         ensures { OnOk result (self.new ≡ step.Replaces (storing array.now index.now value.now) ∷ self.old) }
     {
-        let stored = stored(alloc, array, index, value)?;
-        self.replace(alloc, one_array(alloc, current(alloc, array)?, stored)?)
+        self.replace(alloc, storing(alloc, array, index, value)?)
     }
 
     /// From here on each of these names stands for the current value of its base. The only error is want of memory.
@@ -191,6 +180,23 @@ impl SymbolicState {
         self.given(Fact::Plain(form))
     }
 
+    // The facts are given, one after the other, in which names are replaced.
+    fn assume_changed(
+        &mut self,
+        alloc: Global,
+        facts: &[Fact],
+        by: &Changes,
+    ) -> Result<(), AllocError>
+        requires facts { All BindsBound facts.now }
+        requires by { KeepsBound (change_in by.now) }
+        ensures { OnOk result (self.new ≡ assumed (map (replaced_fact (change_in by.now)) facts.now) self.old) }
+    {
+        for fact in facts {
+            self.given(changed_fact(alloc, fact, by)?)?;
+        }
+        Ok(())
+    }
+
     /// A call has come to its end: what its function promises is given, one fact after the other, where its
     /// parameters at entry had these values, and its result and its cells have fresh names. The names of results and
     /// cells change by `renew`. The only error is want of memory.
@@ -208,7 +214,11 @@ impl SymbolicState {
             (map (replaced_fact (change (returning (map (λ g. g.name) program.now.globals) args.now outcome.now cells.now))) promises.now)
             self.old) }
     {
-        Err(AllocError)
+        if promises.is_empty() {
+            return Ok(());
+        }
+        let by = returning(alloc, program.program(), args, outcome, cells)?;
+        self.assume_changed(alloc, promises, &by)
     }
 
     /// How many steps there are. It takes no memory.
