@@ -14,3 +14,4 @@ pub mod NameLaws
 pub mod AscentLaws
 pub mod FoundLaws
 pub mod GivenLaws
+pub mod RoomLaws

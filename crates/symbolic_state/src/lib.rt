@@ -3,6 +3,7 @@
 #![tactic(auto)]
 
 mod bindings;
+mod gathered;
 pub mod laws;
 mod pairs;
 mod state;

@@ -1,19 +1,22 @@
 ghost use Rattle.std.specs.Prelude.{◌≡◌, ◌<◌, ◌+◌, ◌++◌, List, [], ◌∷◌, map, length, drop, All, IfOk, OnOk};
 ghost use Rattle.terms.specs.declared.fact.Fact.TheVariants.{Plain};
 ghost use Rattle.terms.specs.Replacing.{change_in, replaced_fact};
+ghost use Rattle.terms.specs.Sizes.{sequent_size};
 ghost use Rattle.loop_invariants.specs.Binding.{BindsBound, KeepsBound};
 ghost use Rattle.weakest_preconditions.specs.Changing.{change, setting, storing, renewing, passing, returning, entering};
 ghost use Rattle.loop_invariants.specs.EntryNames.{result_base};
 ghost use Rattle.symbolic_state.specs.declared.step.Step.TheVariants as step;
 ghost use Rattle.symbolic_state.specs.Code.Values.{IsCurrent};
-ghost use Rattle.symbolic_state.specs.Code.Joined.{given_of, GivesBound};
+ghost use Rattle.symbolic_state.specs.Code.Joined.{given_of, given_first, GivesBound};
+ghost use Rattle.symbolic_state.specs.Code.Room.{UpTo, IsPut};
 ghost use Rattle.symbolic_state.specs.Code.Writing.{NumberAt, ArrayAt, change_at, finished_forms};
 ghost use Rattle.symbolic_state.specs.Steps.{finished, assumed, outermost, owed, without_sorts, IsMadeWithin};
 
 use crate::Step;
 use crate::bindings::Bindings;
+use crate::gathered::Gathered;
 use crate::pairs::{add_changes, array_at, forget, is_bound, number_at};
-use crate::writing::{finished_fact, put_forms};
+use crate::writing::{finished_fact, put_fact, put_forms};
 use c_lang::{Func, Name, Program};
 use name_changes::{
     changed_fact, entering, passing, renewing, returning, setting, setting_result, storing,
@@ -254,35 +257,49 @@ impl SymbolicState {
         let _steps = self.steps.as_slice();
     }
 
-    // What is given, and these forms, with what their names stand for.
-    fn finished_hyps(&self, alloc: Global, hyps: &[Form]) -> Result<Items<Fact>, AllocError>
-        ensures { IfOk result (λ made. made ≡ given_of self.now ++ finished_forms (change_at self.now (length self.now)) hyps.now) }
+    // Adds what is given, and these forms, with what their names stand for, and answers whether there was room.
+    fn put_hyps(
+        &self,
+        alloc: Global,
+        gathered: &mut Gathered,
+        hyps: &[Form],
+    ) -> Result<bool, AllocError>
+        ensures { IfOk result (λ done. IsPut gathered.old gathered.new
+            (given_of self.now ++ finished_forms (change_at self.now (length self.now)) hyps.now) done) }
     {
-        let mut facts = self.given_facts(alloc)?;
-        put_forms(self, alloc, &mut facts, hyps, self.mark())?;
-        Ok(Items::from_vec(facts))
+        if !self.put_given(alloc, gathered)? {
+            return Ok(false);
+        }
+        put_forms(self, alloc, gathered, hyps, self.mark())
     }
 
-    // The condition with all that stands round it.
-    #[tactic(auto, using(crate::proofs::FinishLaws::is_finished))]
+    // The condition with all that stands round it, or nothing where it is larger than the room.
     fn whole(
         &self,
         alloc: Global,
         hyps: &[Form],
         goal: &Fact,
         label: Label,
-    ) -> Result<Sequent, AllocError>
+        room: u64,
+    ) -> Result<Option<Sequent>, AllocError>
         requires { BindsBound goal.now }
-        ensures { IfOk result (λ made. made ≡ without_sorts (finished self.now (owed hyps.now goal.now label))) }
+        ensures { IfOk result (λ made. UpTo room (sequent_size (without_sorts (finished self.now (owed hyps.now goal.now label))))
+            (without_sorts (finished self.now (owed hyps.now goal.now label))) made) }
     {
         self.gives_bound();
-        let hyps = self.finished_hyps(alloc, hyps)?;
-        Ok(Sequent {
+        let mut gathered = Gathered::new(alloc, room);
+        if !self.put_hyps(alloc, &mut gathered, hyps)? {
+            return Ok(None);
+        }
+        let Some(goal) = finished_fact(self, alloc, goal, self.mark(), gathered.left)? else {
+            return Ok(None);
+        };
+        Ok(Some(Sequent {
             sorts: Items::new(alloc),
-            hyps,
-            goal: finished_fact(self, alloc, goal, self.mark())?,
+            hyps: Items::from_vec(gathered.into_facts()),
+            goal,
             label,
-        })
+        }))
     }
 
     /// The goal under these hypotheses, with all that stands round it, as a sequent without sorts; or nothing where
@@ -299,8 +316,10 @@ impl SymbolicState {
         requires { BindsBound goal.now }
         ensures { IfOk result (λ made. IsMadeWithin room (without_sorts (finished self.now (owed hyps.now goal.now label))) made) }
     {
-        let made = self.whole(alloc, hyps, goal, label)?;
-        within(made, room)
+        match self.whole(alloc, hyps, goal, label, room)? {
+            Some(made) => within(made, room),
+            None => Ok(None),
+        }
     }
 
     // The nodes of what a name stands for as a number, and how many steps count for them.
@@ -340,33 +359,35 @@ impl SymbolicState {
         Some((value.nodes(), binding.source))
     }
 
-    // The fact that the step with this number gives, with what its names stand for there.
-    fn give(&self, alloc: Global, number: usize, facts: &mut Vec<Fact>) -> Result<(), AllocError>
+    // Adds the fact that the step with this number gives, with what its names stand for there, and answers whether
+    // there was room.
+    fn give(
+        &self,
+        alloc: Global,
+        number: usize,
+        gathered: &mut Gathered,
+    ) -> Result<bool, AllocError>
         requires { number < length self.now }
-        ensures { OnOk result (facts.old.items ≡ given_of (outermost number self.now)
-            → facts.new.items ≡ given_of (outermost (number + 1) self.now)) }
+        ensures { IfOk result (λ done. IsPut gathered.old gathered.new (given_first (outermost (number + 1) self.now)) done) }
     {
         match &self.steps[number] {
-            Step::Replaces(_) => Ok(()),
-            Step::Assumes(fact) => {
-                facts.push(finished_fact(self, alloc, fact, number)?)?;
-                Ok(())
-            }
+            Step::Replaces(_) => Ok(true),
+            Step::Assumes(fact) => put_fact(self, alloc, gathered, fact, number),
         }
     }
 
-    // The facts that the steps give, with what their names stand for.
-    #[tactic(auto, using(crate::proofs::GivenLaws::given_first, crate::proofs::GivenLaws::given_last))]
-    pub(crate) fn given_facts(&self, alloc: Global) -> Result<Vec<Fact>, AllocError>
-        ensures { IfOk result (λ made. made.items ≡ given_of self.now) }
+    // Adds the facts that the steps give, with what their names stand for, and answers whether there was room.
+    fn put_given(&self, alloc: Global, gathered: &mut Gathered) -> Result<bool, AllocError>
+        ensures { IfOk result (λ done. IsPut gathered.old gathered.new (given_of self.now) done) }
     {
-        let mut facts = Vec::new(alloc);
         let mut number = 0;
         while number < self.mark() {
-            self.give(alloc, number, &mut facts)?;
+            if !self.give(alloc, number, gathered)? {
+                return Ok(false);
+            }
             number += 1;
         }
-        Ok(facts)
+        Ok(true)
     }
 }
 
