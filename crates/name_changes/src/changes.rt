@@ -3,9 +3,9 @@ ghost use Rattle.c_lang.specs.declared.program.GlobalVar.{GlobalVar};
 ghost use Rattle.terms.specs.Trees.{name, array, stored};
 ghost use Rattle.expression_conditions.specs.Meanings.{current};
 ghost use Rattle.weakest_preconditions.specs.Changing.{entry_values, setting, storing, passing, renewing, entering};
-ghost use Rattle.loop_invariants.specs.EntryNames.{result_base, parameter_at_entry, global_at_entry};
+ghost use Rattle.loop_invariants.specs.EntryNames.{parameter_at_entry, global_at_entry};
 
-use crate::names::{current, current_result, global_at_entry, parameter_at_entry};
+use crate::names::{current, global_at_entry, parameter_at_entry};
 use c_lang::{Func, GlobalVar, Kind, Name, Program};
 use sqlite_items::Items;
 use std::alloc::{AllocError, Global};
@@ -28,14 +28,6 @@ pub fn setting(alloc: Global, name: &Name, value: &Term) -> Result<Changes, Allo
     ensures { IfOk result (λ made. made ≡ setting name.now value.now) }
 {
     let name = current(alloc, name)?;
-    one_number(alloc, name, value)
-}
-
-/// The result of a function is this value. The only error is want of memory.
-pub fn setting_result(alloc: Global, value: &Term) -> Result<Changes, AllocError>
-    ensures { IfOk result (λ made. made ≡ setting result_base value.now) }
-{
-    let name = current_result(alloc)?;
     one_number(alloc, name, value)
 }
 

@@ -7,5 +7,5 @@ mod facts;
 mod names;
 
 pub use call_end::returning;
-pub use changes::{entering, passing, renewing, setting, setting_result, storing};
+pub use changes::{entering, passing, renewing, setting, storing};
 pub use facts::changed_fact;

@@ -6,21 +6,19 @@ ghost use Rattle.loop_invariants.specs.Binding.{BindsBound, KeepsBound};
 ghost use Rattle.weakest_preconditions.specs.Changing.{change, setting, storing, renewing, passing, returning, entering};
 ghost use Rattle.loop_invariants.specs.EntryNames.{result_base};
 ghost use Rattle.symbolic_state.specs.declared.step.Step.TheVariants as step;
-ghost use Rattle.symbolic_state.specs.Code.Values.{IsCurrent};
+ghost use Rattle.symbolic_state.specs.Code.Values.{IsCurrent, IsBindingOf};
 ghost use Rattle.symbolic_state.specs.Code.Joined.{given_of, given_first, GivesBound};
 ghost use Rattle.symbolic_state.specs.Code.Room.{UpTo, IsPut};
 ghost use Rattle.symbolic_state.specs.Code.Writing.{NumberAt, ArrayAt, change_at, finished_forms};
 ghost use Rattle.symbolic_state.specs.Steps.{finished, assumed, outermost, owed, without_sorts, IsMadeWithin};
 
 use crate::Step;
-use crate::bindings::Bindings;
+use crate::bindings::{Binding, Bindings};
 use crate::gathered::Gathered;
-use crate::pairs::{add_changes, array_at, forget, is_bound, number_at};
+use crate::pairs::{add_changes, add_value, array_at, current_value, forget, is_bound, number_at};
 use crate::writing::{finished_fact, put_fact, put_forms};
 use c_lang::{Func, Name, Program};
-use name_changes::{
-    changed_fact, entering, passing, renewing, returning, setting, setting_result, storing,
-};
+use name_changes::{changed_fact, entering, passing, renewing, returning, setting, storing};
 use name_tables::ProgramNames;
 use sqlite_items::Items;
 use std::alloc::{AllocError, Global};
@@ -107,18 +105,60 @@ impl SymbolicState {
         Ok(())
     }
 
+    // Where the value stands that a name gets next. Where it is another name that has got a value, it is the place of
+    // that value, so that nothing goes from name to name to find it.
+    fn next_binding(&self, value: &Term) -> Binding
+        ensures { IsBindingOf self.now value.now result }
+    {
+        let step = self.steps.len();
+        let own = Binding {
+            step,
+            source: step,
+            pair: 0,
+        };
+        let Some(symbol) = current_value(value) else {
+            return own;
+        };
+        match self.numbers.latest(&symbol.base, step) {
+            Some(found) => Binding {
+                step,
+                source: found.source,
+                pair: found.pair,
+            },
+            None => own,
+        }
+    }
+
     /// From here on the name's current value is the given one. The only error is want of memory.
     pub fn set(&mut self, alloc: Global, name: &Name, value: &Term) -> Result<(), AllocError>
         ensures { OnOk result (self.new ≡ step.Replaces (setting name.now value.now) ∷ self.old) }
     {
-        self.replace(alloc, setting(alloc, name, value)?)
+        let binding = self.next_binding(value);
+        let changes = setting(alloc, name, value)?;
+        match add_value(
+            alloc,
+            &mut self.steps,
+            &mut self.numbers,
+            name,
+            binding,
+            changes,
+        ) {
+            Ok(()) => Ok(()),
+            Err(_) => {
+                self.steps.clear();
+                self.numbers = Bindings::new(alloc);
+                self.arrays = Bindings::new(alloc);
+                Err(AllocError)
+            }
+        }
     }
 
     /// From here on the result of a function has this value. The only error is want of memory.
     pub fn set_result(&mut self, alloc: Global, value: &Term) -> Result<(), AllocError>
         ensures { OnOk result (self.new ≡ step.Replaces (setting result_base value.now) ∷ self.old) }
     {
-        self.replace(alloc, setting_result(alloc, value)?)
+        let name = Name::new(alloc, b"$r")?;
+        self.set(alloc, &name, value)
     }
 
     /// From here on the current array has the value at the index. The only error is want of memory.
