@@ -1,4 +1,4 @@
-ghost use Rattle.std.specs.Prelude.{◌≡◌, [], ◌∷◌, ◌++◌, map, IfOk};
+ghost use Rattle.std.specs.Prelude.{◌≡◌, ◌++◌, map, IfOk};
 ghost use Rattle.c_lang.specs.declared.program.GlobalVar.{GlobalVar};
 ghost use Rattle.terms.specs.Trees.{name, array};
 ghost use Rattle.expression_conditions.specs.Meanings.{current};
