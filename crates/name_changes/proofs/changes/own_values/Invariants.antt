@@ -2,7 +2,7 @@ use Rattle.std.proofs.Common.{◌≡◌, ◌≤◌, ◌+◌, ◌-◌, ◌++◌, 
 use Rattle.terms.specs.Trees.{name}
 use Rattle.expression_conditions.specs.Meanings.{current}
 use Rattle.weakest_preconditions.specs.Changing.{entry_values}
-use Rattle.symbolic_state.proofs.changes.own_values.Given as goal
+use Rattle.name_changes.proofs.changes.own_values.Given as goal
 
 -- the pairs so far and those to come
 abbrev pub invariant-loop-done : goal.invariant-loop-done

@@ -1,7 +1,7 @@
 use Rattle.std.proofs.Common.{◌≡◌, ◌++◌, map, drop}
 use Rattle.terms.specs.Trees.{array}
 use Rattle.expression_conditions.specs.Meanings.{current}
-use Rattle.symbolic_state.proofs.changes.renewed_arrays.Given as goal
+use Rattle.name_changes.proofs.changes.renewed_arrays.Given as goal
 
 -- the pairs so far and those to come
 abbrev pub invariant-loop-symbol : goal.invariant-loop-symbol

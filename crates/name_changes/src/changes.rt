@@ -1,28 +1,18 @@
-ghost use Rattle.std.specs.Prelude.{◌≡◌, suc, List, [], ◌∷◌, ◌++◌, map, IfOk, OnOk};
+ghost use Rattle.std.specs.Prelude.{◌≡◌, [], ◌∷◌, map, IfOk};
 ghost use Rattle.c_lang.specs.declared.program.GlobalVar.{GlobalVar};
 ghost use Rattle.terms.specs.Trees.{name, array, stored};
 ghost use Rattle.expression_conditions.specs.Meanings.{current};
-ghost use Rattle.weakest_preconditions.specs.Changing.{entry_values, passing, renewing, entering};
+ghost use Rattle.weakest_preconditions.specs.Changing.{entry_values, setting, storing, passing, renewing, entering};
 ghost use Rattle.loop_invariants.specs.EntryNames.{parameter_at_entry, global_at_entry};
 
+use crate::names::{current, global_at_entry, parameter_at_entry};
 use c_lang::{Func, GlobalVar, Kind, Name, Program};
-use itoa::Buffer;
 use sqlite_items::Items;
 use std::alloc::{AllocError, Global};
 use terms::{ArrayTerm, Changes, Sym, Term};
 
-// The name of a base's current value.
-pub(crate) fn current(alloc: Global, base: &Name) -> Result<Sym, AllocError>
-    ensures { IfOk result (λ made. made ≡ current base.now) }
-{
-    Ok(Sym {
-        base: base.copy(alloc)?,
-        count: 0,
-    })
-}
-
 // One name as a number is replaced.
-pub(crate) fn one_number(alloc: Global, replaced: Sym, value: &Term) -> Result<Changes, AllocError>
+fn one_number(alloc: Global, replaced: Sym, value: &Term) -> Result<Changes, AllocError>
     ensures { IfOk result (λ made. made ≡ record { numbers = (replaced, value.now) ∷ []; arrays = [] }) }
 {
     let mut pairs = Vec::new(alloc);
@@ -33,33 +23,38 @@ pub(crate) fn one_number(alloc: Global, replaced: Sym, value: &Term) -> Result<C
     })
 }
 
-// One name as an array is replaced.
-pub(crate) fn one_array(
-    alloc: Global,
-    replaced: Sym,
-    value: ArrayTerm,
-) -> Result<Changes, AllocError>
-    ensures { IfOk result (λ made. made ≡ record { numbers = []; arrays = (replaced, value) ∷ [] }) }
+/// The name's current value is the given one. The only error is want of memory.
+pub fn setting(alloc: Global, name: &Name, value: &Term) -> Result<Changes, AllocError>
+    ensures { IfOk result (λ made. made ≡ setting name.now value.now) }
 {
-    let mut pairs = Vec::new(alloc);
-    pairs.push((replaced, value))?;
-    Ok(Changes {
-        numbers: Items::new(alloc),
-        arrays: Items::from_vec(pairs),
-    })
+    let name = current(alloc, name)?;
+    one_number(alloc, name, value)
 }
 
 // The current array with a value stored at an index.
-pub(crate) fn stored(
-    alloc: Global,
-    base: &Name,
-    index: &Term,
-    value: &Term,
-) -> Result<ArrayTerm, AllocError>
+fn stored(alloc: Global, base: &Name, index: &Term, value: &Term) -> Result<ArrayTerm, AllocError>
     ensures { IfOk result (λ made. made ≡ stored (array (current base.now)) index.now value.now) }
 {
     let old = ArrayTerm::base(alloc, current(alloc, base)?)?;
     ArrayTerm::store(old, index.copy(alloc)?, value.copy(alloc)?)
+}
+
+/// The current array has the value at the index. The only error is want of memory.
+pub fn storing(
+    alloc: Global,
+    base: &Name,
+    index: &Term,
+    value: &Term,
+) -> Result<Changes, AllocError>
+    ensures { IfOk result (λ made. made ≡ storing base.now index.now value.now) }
+{
+    let by = stored(alloc, base, index, value)?;
+    let mut pairs = Vec::new(alloc);
+    pairs.push((current(alloc, base)?, by))?;
+    Ok(Changes {
+        numbers: Items::new(alloc),
+        arrays: Items::from_vec(pairs),
+    })
 }
 
 // The base's current value is the fresh name, as a number.
@@ -78,7 +73,7 @@ fn renewed_array(alloc: Global, fresh: &Sym) -> Result<(Sym, ArrayTerm), AllocEr
     Ok((current(alloc, &fresh.base)?, by))
 }
 
-fn renewed_numbers(alloc: Global, fresh: &[Sym]) -> Result<Vec<(Sym, Term)>, AllocError>
+pub(crate) fn renewed_numbers(alloc: Global, fresh: &[Sym]) -> Result<Vec<(Sym, Term)>, AllocError>
     ensures { IfOk result (λ made. made.items ≡ map (λ x. (current x.base, name x)) fresh.now) }
 {
     let mut pairs = Vec::new(alloc);
@@ -88,7 +83,10 @@ fn renewed_numbers(alloc: Global, fresh: &[Sym]) -> Result<Vec<(Sym, Term)>, All
     Ok(pairs)
 }
 
-fn renewed_arrays(alloc: Global, fresh: &[Sym]) -> Result<Vec<(Sym, ArrayTerm)>, AllocError>
+pub(crate) fn renewed_arrays(
+    alloc: Global,
+    fresh: &[Sym],
+) -> Result<Vec<(Sym, ArrayTerm)>, AllocError>
     ensures { IfOk result (λ made. made.items ≡ map (λ x. (current x.base, array x)) fresh.now) }
 {
     let mut pairs = Vec::new(alloc);
@@ -98,41 +96,14 @@ fn renewed_arrays(alloc: Global, fresh: &[Sym]) -> Result<Vec<(Sym, ArrayTerm)>,
     Ok(pairs)
 }
 
-// Each of these names for the current value of its base.
-pub(crate) fn renewing(alloc: Global, fresh: &[Sym]) -> Result<Changes, AllocError>
+/// Each of these names for the current value of its base. The only error is want of memory.
+pub fn renewing(alloc: Global, fresh: &[Sym]) -> Result<Changes, AllocError>
     ensures { IfOk result (λ made. made ≡ renewing fresh.now) }
 {
     let numbers = Items::from_vec(renewed_numbers(alloc, fresh)?);
     Ok(Changes {
         numbers,
         arrays: Items::from_vec(renewed_arrays(alloc, fresh)?),
-    })
-}
-
-// The value at entry of the parameter with this number.
-fn parameter_at_entry(alloc: Global, number: usize) -> Result<Sym, AllocError>
-    ensures { IfOk result (λ made. made ≡ parameter_at_entry number) }
-{
-    let mut text = Vec::new(alloc);
-    text.push(b'$')?;
-    text.extend_from_slice(Buffer::new().format(number).as_bytes())?;
-    Ok(Sym {
-        base: Name::from_vec(text),
-        count: 0,
-    })
-}
-
-// The value of a global at entry.
-fn global_at_entry(alloc: Global, global: &Name) -> Result<Sym, AllocError>
-    ensures { IfOk result (λ made. made ≡ global_at_entry global.now) }
-{
-    let mut text = Vec::new(alloc);
-    text.extend_from_slice(b"pre(")?;
-    text.extend_from_slice(global.as_bytes())?;
-    text.push(b')')?;
-    Ok(Sym {
-        base: Name::from_vec(text),
-        count: 0,
     })
 }
 
@@ -144,7 +115,7 @@ fn passed(alloc: Global, number: usize, value: &Term) -> Result<(Sym, Term), All
     Ok((parameter_at_entry(alloc, number)?, value))
 }
 
-fn passed_values(alloc: Global, args: &[Term]) -> Result<Vec<(Sym, Term)>, AllocError>
+pub(crate) fn passed_values(alloc: Global, args: &[Term]) -> Result<Vec<(Sym, Term)>, AllocError>
     ensures { IfOk result (λ made. made.items ≡ entry_values 1 args.now) }
 {
     let mut pairs = Vec::new(alloc);
@@ -156,8 +127,8 @@ fn passed_values(alloc: Global, args: &[Term]) -> Result<Vec<(Sym, Term)>, Alloc
     Ok(pairs)
 }
 
-// The parameters at entry have these values.
-pub(crate) fn passing(alloc: Global, args: &[Term]) -> Result<Changes, AllocError>
+/// The parameters at entry have these values. The only error is want of memory.
+pub fn passing(alloc: Global, args: &[Term]) -> Result<Changes, AllocError>
     ensures { IfOk result (λ made. made ≡ passing args.now) }
 {
     Ok(Changes {
@@ -182,7 +153,10 @@ fn entered_array(alloc: Global, global: &Name) -> Result<(Sym, ArrayTerm), Alloc
     Ok((global_at_entry(alloc, global)?, value))
 }
 
-fn entered_numbers(alloc: Global, globals: &[GlobalVar]) -> Result<Vec<(Sym, Term)>, AllocError>
+pub(crate) fn entered_numbers(
+    alloc: Global,
+    globals: &[GlobalVar],
+) -> Result<Vec<(Sym, Term)>, AllocError>
     ensures { IfOk result (λ made. made.items
         ≡ map (λ g. (global_at_entry g, name (current g))) (map (λ (d : GlobalVar). d.name) globals.now)) }
 {
@@ -193,7 +167,10 @@ fn entered_numbers(alloc: Global, globals: &[GlobalVar]) -> Result<Vec<(Sym, Ter
     Ok(pairs)
 }
 
-fn entered_arrays(alloc: Global, globals: &[GlobalVar]) -> Result<Vec<(Sym, ArrayTerm)>, AllocError>
+pub(crate) fn entered_arrays(
+    alloc: Global,
+    globals: &[GlobalVar],
+) -> Result<Vec<(Sym, ArrayTerm)>, AllocError>
     ensures { IfOk result (λ made. made.items
         ≡ map (λ g. (global_at_entry g, array (current g))) (map (λ (d : GlobalVar). d.name) globals.now)) }
 {
@@ -225,8 +202,8 @@ fn own_values(alloc: Global, params: &[(Kind, Name)]) -> Result<Vec<(Sym, Term)>
     Ok(pairs)
 }
 
-// A body begins: a global and a parameter at entry are what they are now.
-pub(crate) fn entering(alloc: Global, program: &Program, func: &Func) -> Result<Changes, AllocError>
+/// A body begins: a global and a parameter at entry are what they are now. The only error is want of memory.
+pub fn entering(alloc: Global, program: &Program, func: &Func) -> Result<Changes, AllocError>
     ensures { IfOk result (λ made. made
         ≡ entering (map (λ g. g.name) program.now.globals) (map (λ p. p.1) func.now.params)) }
 {

@@ -3,7 +3,7 @@ use Rattle.c_lang.specs.declared.program.GlobalVar.{GlobalVar}
 use Rattle.terms.specs.Trees.{name}
 use Rattle.expression_conditions.specs.Meanings.{current}
 use Rattle.loop_invariants.specs.EntryNames.{global_at_entry}
-use Rattle.symbolic_state.proofs.changes.entered_numbers.Given as goal
+use Rattle.name_changes.proofs.changes.entered_numbers.Given as goal
 
 -- the pairs so far and those to come
 abbrev pub invariant-loop-global : goal.invariant-loop-global

@@ -1,6 +1,6 @@
 use Rattle.std.proofs.Common.{◌≡◌, ◌≤◌, ◌+◌, ◌-◌, ◌++◌, length, drop}
 use Rattle.weakest_preconditions.specs.Changing.{entry_values}
-use Rattle.symbolic_state.proofs.changes.passed_values.Given as goal
+use Rattle.name_changes.proofs.changes.passed_values.Given as goal
 
 -- the pairs so far and those to come
 abbrev pub invariant-loop-done : goal.invariant-loop-done
