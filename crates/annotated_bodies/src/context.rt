@@ -107,7 +107,7 @@ impl<'p> Context<'p> {
     }
 
     /// Adds the cells that a function may change. The only error is want of memory.
-    pub(crate) fn add_assigns<'c>(
+    pub fn add_assigns<'c>(
         &'c self,
         out: &mut Vec<&'c Name>,
         func: &Name,
@@ -139,7 +139,7 @@ impl<'p> Context<'p> {
     }
 
     /// Adds the cells that some function reached by a pointer may change. The only error is want of memory.
-    pub(crate) fn add_reached_assigns<'c>(
+    pub fn add_reached_assigns<'c>(
         &'c self,
         alloc: Global,
         out: &mut Vec<&'c Name>,

@@ -3,3 +3,5 @@
 
 mod goals;
 mod made;
+mod statements;
+mod steps;
