@@ -25,10 +25,10 @@ use Rattle.control_flow.specs.Steps.{step}
 use Rattle.wp_conditions.specs.Code.Edges.{turn_steps, call_steps, given_step, reached, edges, here, beyond}
 
 module _ (S : List Step) where
-  replaced : (ch : Changes) (l : List Condition) → map (finished S) (map (changed (change ch)) l) ≡ map (finished (stepped.Replaces ch ∷ S)) l
+  pub replaced : (ch : Changes) (l : List Condition) → map (finished S) (map (changed (change ch)) l) ≡ map (finished (stepped.Replaces ch ∷ S)) l
   replaced ch l = map-map (finished S) (changed (change ch)) l
 
-  given : (h : FormTree) (l : List Condition) → map (finished S) (implies h l) ≡ map (finished (given_step h S)) l
+  pub given : (h : FormTree) (l : List Condition) → map (finished S) (implies h l) ≡ map (finished (given_step h S)) l
   given h l = map-map (finished S) (under (fact.Plain h)) l
 
   -- conditions at the statement, and then others

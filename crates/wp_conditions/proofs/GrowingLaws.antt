@@ -1,7 +1,8 @@
 -- Laws of a list that grows up to a limit.
-use Rattle.std.proofs.Common.{◌≡◌, ℕ, ◌+◌, ◌-◌, ◌<◌, ◌≤◌, Bool, true, false, nat_le, if◌then◌else◌, is_none, min, ◌^◌, List, [], ◌∷◌, ◌++◌, map, Option, Some, None, refl, sym, ap, ◌∙◌, arith}
+use Rattle.std.proofs.Common.{◌≡◌, ℕ, ◌+◌, ◌-◌, ◌<◌, ◌≤◌, Bool, true, false, nat_le, if◌then◌else◌, is_none, min, ◌^◌, List, [], ◌∷◌, ◌++◌, map, flat_map, Option, Some, None, refl, sym, ap, ◌∙◌, arith}
 use Rattle.std.proofs.lemmas.Bool.{le-leb, lt-leb}
 use Rattle.std.proofs.Math.Nat.{min-eq_left}
+use Rattle.std.proofs.lemmas.List.{map-append}
 use Rattle.c_lang.specs.declared.program.Func.{Func}
 use Rattle.c_lang.specs.declared.program.Program.{Program}
 use Rattle.terms.specs.declared.fact.Fact.{Fact}
@@ -11,7 +12,7 @@ use Rattle.terms.specs.Sizes.{fact_size, sequent_size}
 use Rattle.weakest_preconditions.specs.Wp.{Condition}
 use Rattle.weakest_preconditions.specs.Sorts.{sequent}
 use Rattle.weakest_preconditions.specs.Conditions.{node_limit, sequents_size}
-use Rattle.wp_conditions.specs.Code.Growing.{within, pushed, grown, room_in, HasRoom, with_one}
+use Rattle.wp_conditions.specs.Code.Growing.{within, pushed, grown, grown_each, room_in, HasRoom, with_one}
 
 pub size_of_last : (l : List Sequent) (s : Sequent) → sequents_size (l ++ (s ∷ [])) ≡ sequents_size l + sequent_size s
 size_of_last [] s = omega arith
@@ -65,3 +66,11 @@ module _ (p : Program) (f : Func) (s : Condition) where
 pub grown_append : (p : Program) (f : Func) (m : Option (List Sequent)) (a b : List Condition) → grown p f m (a ++ b) ≡ grown p f (grown p f m a) b
 grown_append p f m [] b = refl
 grown_append p f m (s ∷ a) b = grown_append p f (pushed p f m s) a b
+
+pub each_is : {X : Type 0} (p : Program) (f : Func) (m : Option (List Sequent)) (g : Condition → Condition) (make : X → List Condition) (xs : List X)
+    → grown_each p f m (λ x. map g (make x)) xs ≡ grown p f m (map g (flat_map make xs))
+each_is p f m g make [] = refl
+each_is p f m g make (x ∷ xs) =
+    each_is p f (grown p f m (map g (make x))) g make xs
+    ∙ sym (grown_append p f m (map g (make x)) (map g (flat_map make xs)))
+    ∙ ap (grown p f m) (sym (map-append g (make x) (flat_map make xs)))

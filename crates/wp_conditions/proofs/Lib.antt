@@ -1,2 +1,3 @@
 pub mod GrowingLaws
 pub mod EdgeLaws
+pub mod StepLaws

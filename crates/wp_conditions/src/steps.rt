@@ -188,8 +188,8 @@ pub(crate) fn go_behind(
     }
 }
 
-// The pointer is the function.
-fn assume_reached(
+/// The pointer is the function. The only error is want of memory.
+pub(crate) fn assume_reached(
     alloc: Global,
     names: &ProgramNames<'_>,
     state: &mut SymbolicState,

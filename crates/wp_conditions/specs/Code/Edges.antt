@@ -1,5 +1,5 @@
 -- What is made at a statement, and how what stands round a condition changes from a statement to what follows it.
-use Rattle.std.specs.Prelude.{ℕ, pos, List, [], ◌∷◌, ◌++◌, map, flat_map, length, Some, None}
+use Rattle.std.specs.Prelude.{ℕ, ℤ, pos, List, [], ◌∷◌, ◌++◌, map, flat_map, length, Some, None}
 use Rattle.c_lang.specs.Names.{Bytes}
 use Rattle.terms.specs.declared.sym.Sym.{Sym}
 use Rattle.terms.specs.declared.fact.Fact.{Fact}
@@ -9,7 +9,10 @@ use Rattle.terms.specs.Trees.{TermTree, number, name, FormTree, equal, denied}
 use Rattle.terms.specs.Replacing.{replaced_fact}
 use Rattle.expression_conditions.specs.Meanings.{val, form, current}
 use Rattle.expression_conditions.specs.Owed.{own, own_all, own_element}
-use Rattle.loop_invariants.specs.Context.{Context}
+use Rattle.c_lang.specs.declared.program.Func.{Func}
+use Rattle.c_lang.specs.declared.program.Program.{Program}
+use Rattle.loop_invariants.specs.Hints.{Hints}
+use Rattle.loop_invariants.specs.Context.{Context, context_of}
 use Rattle.weakest_preconditions.specs.Changing.{change, setting_at, storing, renewing, returning}
 use Rattle.weakest_preconditions.specs.Annotated.{Annotated, aside, set, set_element, call, call_by, if_else, while_loop, break_loop, return_with, assert_that, input, output, choice}
 use Rattle.weakest_preconditions.specs.Wp.{Condition, implies, goal_of, goals, owed_at, promised, asked, is_function, cells_of}
@@ -104,3 +107,10 @@ here c func t steps = []
 -- what is made behind the edges, where `next` are the conditions of the nodes by their numbers
 abbrev pub beyond : Context → List (Edge × ℕ) → (next : ℕ → List Condition) → List Step → List Condition
 beyond c es next steps = flat_map (λ e. map (finished (edge_steps c e.0 steps)) (next e.1)) es
+
+-- what is read of a program and hints for one of its functions
+abbrev pub context_for : Program × Hints × Func → Context
+context_for f = context_of f.0 f.1
+
+abbrev pub zero : ℤ
+zero = pos 0

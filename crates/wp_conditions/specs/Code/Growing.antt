@@ -33,3 +33,8 @@ HasRoom (Some l) n = n ≤ node_limit - sequents_size l
 abbrev pub with_one : Option (List Sequent) → Sequent → Option (List Sequent)
 with_one None s = None
 with_one (Some l) s = Some (l ++ (s ∷ []))
+
+-- with what is made for each of these behind it
+abbrev pub grown_each : {X : Type 0} → Program → Func → Option (List Sequent) → (X → List Condition) → List X → Option (List Sequent)
+grown_each p f made make [] = made
+grown_each p f made make (x ∷ xs) = grown_each p f (grown p f made (make x)) make xs
