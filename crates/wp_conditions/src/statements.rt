@@ -1,6 +1,7 @@
 //! What is made at a statement itself.
 
 ghost use Rattle.std.specs.Prelude.{◌≡◌, ◌∷◌, [], ◌++◌, OnOk, map, flat_map, length};
+ghost use Rattle.std.specs.Option.{option_map};
 ghost use Rattle.c_lang.specs.Trees.{expression_of};
 ghost use Rattle.terms.specs.declared.fact.Fact.TheVariants.{Plain};
 ghost use Rattle.terms.specs.declared.sequent.What.TheVariants as what;
@@ -8,6 +9,7 @@ ghost use Rattle.terms.specs.Trees as term;
 ghost use Rattle.expression_conditions.specs.Meanings as meaning;
 ghost use Rattle.expression_conditions.specs.Numbers.{numbers_in};
 ghost use Rattle.expression_conditions.specs.Owed as owing;
+ghost use Rattle.weakest_preconditions.specs.Annotated.{return_with};
 ghost use Rattle.weakest_preconditions.specs.Wp as wp;
 ghost use Rattle.annotated_bodies.specs.Sources.{context_in};
 ghost use Rattle.annotated_bodies.specs.Seen.{seen_annotated};
@@ -187,7 +189,7 @@ fn put_reached(
     ensures made { OnOk result (made.new ≡ grown site.now.0 site.now.2 made.old (map (finished state.old)
         (flat_map (λ f. wp.implies (wp.is_function (edges.context_for site.now) pointer.now f)
         (wp.asked (edges.context_for site.now) pos f (map (meaning.val (numbers_in site.now.0)) (map expression_of args.now))))
-        ((edges.context_for site.now).reached (length args.now))))) }
+        ((edges.context_for site.now).reached (length (map expression_of args.now)))))) }
     ensures state { OnOk result (state.new ≡ state.old) }
 {
     let funcs = site.context().reached(alloc, args.len())?;
@@ -235,7 +237,7 @@ fn put_call_by(
         ++ (finished state.old (wp.goal_of pos what.NullCall (Plain (term.denied (term.equal (term.name (meaning.current pointer.now)) (term.number edges.zero)))))
         ∷ map (finished state.old) (flat_map (λ f. wp.implies (wp.is_function (edges.context_for site.now) pointer.now f)
         (wp.asked (edges.context_for site.now) pos f (map (meaning.val (numbers_in site.now.0)) (map expression_of args.now))))
-        ((edges.context_for site.now).reached (length args.now)))))) }
+        ((edges.context_for site.now).reached (length (map expression_of args.now))))))) }
     ensures state { OnOk result (state.new ≡ state.old) }
 {
     put_own_all(alloc, site.sorts(), state, made, pos, args)?;
@@ -348,4 +350,74 @@ fn put_loop(
     put_own(alloc, site.sorts(), state, made, pos, cond)?;
     state.cut_back(mark);
     Ok(())
+}
+
+fn put_return(
+    alloc: Global,
+    site: &FunctionContext<'_>,
+    state: &mut SymbolicState,
+    made: &mut Made,
+    pos: Pos,
+    value: &Option<Expr>,
+) -> Result<(), AllocError>
+    ensures made { OnOk result (made.new ≡ grown site.now.0 site.now.2 made.old
+        (edges.here (edges.context_for site.now) site.now.2.name (return_with pos (option_map expression_of value.now)) state.old)) }
+    ensures state { OnOk result (state.new ≡ state.old) }
+{
+    match value {
+        Some(value) => put_result(alloc, site, state, made, pos, value),
+        None => put_ensures(alloc, site, state, made, pos),
+    }
+}
+
+/// The conditions of the statement itself. What stands round them stays. The only error is want of memory.
+pub(crate) fn put_statement(
+    alloc: Global,
+    site: &FunctionContext<'_>,
+    state: &mut SymbolicState,
+    made: &mut Made,
+    annotated: &Annotated<'_>,
+) -> Result<(), AllocError>
+    ensures made { OnOk result (made.new ≡ grown site.now.0 site.now.2 made.old
+        (edges.here (edges.context_for site.now) site.now.2.name (seen_annotated annotated.now) state.old)) }
+    ensures state { OnOk result (state.new ≡ state.old) }
+{
+    match annotated.stmt {
+        Stmt::Skip { .. } => Ok(()),
+        Stmt::Set { pos, value, .. } => put_own(alloc, site.sorts(), state, made, *pos, value),
+        Stmt::SetElem {
+            pos,
+            array,
+            index,
+            value,
+        } => put_own_element(alloc, site.sorts(), state, made, *pos, array, index, value),
+        Stmt::Call {
+            pos, callee, args, ..
+        } => put_call(alloc, site, state, made, *pos, callee, args.as_slice()),
+        Stmt::CallBy {
+            pos, pointer, args, ..
+        } => put_call_by(alloc, site, state, made, *pos, pointer, args.as_slice()),
+        Stmt::If { pos, cond, .. } => put_own(alloc, site.sorts(), state, made, *pos, cond),
+        Stmt::While { pos, cond, .. } => {
+            put_loop(
+                alloc,
+                site,
+                state,
+                made,
+                *pos,
+                cond,
+                &annotated.invariants,
+                annotated.fresh.as_slice(),
+            )
+        }
+        Stmt::Break { .. } => Ok(()),
+        Stmt::Return { pos, value } => put_return(alloc, site, state, made, *pos, value),
+        Stmt::Assert { pos, cond } => put_assertion(alloc, site, state, made, *pos, cond),
+        Stmt::Input { .. } => Ok(()),
+        Stmt::Output { pos, value } => put_own(alloc, site.sorts(), state, made, *pos, value),
+        Stmt::Point { .. } => Ok(()),
+        Stmt::Choice { .. } => Ok(()),
+        Stmt::Force { .. } => Ok(()),
+        Stmt::Pick { .. } => Ok(()),
+    }
 }
