@@ -3,7 +3,7 @@ ghost use Rattle.annotated_bodies.specs.Sources.{context_in};
 ghost use Rattle.annotated_bodies.specs.Seen.{seen_body};
 ghost use Rattle.weakest_preconditions.specs.Wp.{wp_all};
 ghost use Rattle.weakest_preconditions.specs.Conditions.{at_end};
-ghost use Rattle.control_flow.specs.Seen.{conditions_in, IsGraph};
+ghost use Rattle.control_flow.specs.Seen.{conditions_in};
 
 use crate::Graph;
 use annotated_bodies::{Annotated, Context};
@@ -17,8 +17,8 @@ pub fn control_flow<'p>(
     func: &'p Func,
     body: &'p [Annotated<'p>],
 ) -> Result<Graph<'p>, AllocError>
-    ensures of { IfOk result (λ graph. (graph.context.now ≡ context.entry.now) × (graph.func.now ≡ func.entry.now)) }
-    ensures graph { IfOk result (λ graph. IsGraph graph) }
+    ensures context { IfOk result (λ graph. graph.context.now ≡ context.entry.now) }
+    ensures func { IfOk result (λ graph. graph.func.now ≡ func.entry.now) }
     ensures conditions { IfOk result (λ graph. conditions_in graph graph.entry
         ≡ wp_all (context_in context.entry.now) func.entry.now.name (seen_body body.entry.now)
         (at_end (context_in context.entry.now) func.entry.now) (at_end (context_in context.entry.now) func.entry.now)) }

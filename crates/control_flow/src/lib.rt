@@ -3,6 +3,8 @@
 
 mod build;
 mod graph;
+mod node;
 
 pub use build::control_flow;
-pub use graph::{Graph, Node};
+pub use graph::Graph;
+pub use node::Node;
