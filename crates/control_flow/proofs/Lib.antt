@@ -1,2 +1,4 @@
 pub mod NodeLaws
 pub mod GraphLaws
+pub mod CountingLaws
+pub mod CountsLaws

@@ -2,3 +2,4 @@ pub mod Nodes
 pub mod Steps
 pub mod Kept
 pub mod Seen
+pub mod Code

@@ -2,6 +2,7 @@
 #![tactic(auto)]
 
 mod build;
+mod counts;
 mod graph;
 mod node;
 
