@@ -5,7 +5,9 @@ ghost use Rattle.weakest_preconditions.specs.Wp.{wp_all};
 ghost use Rattle.weakest_preconditions.specs.Conditions.{at_end};
 ghost use Rattle.control_flow.specs.Seen.{conditions_in};
 
-use crate::Graph;
+use crate::adding::{add_statements, push};
+use crate::counts::node_counts;
+use crate::{Graph, Node};
 use annotated_bodies::{Annotated, Context};
 use c_lang::Func;
 use std::alloc::{AllocError, Global};
@@ -23,5 +25,15 @@ pub fn control_flow<'p>(
         ≡ wp_all (context_in context.entry.now) func.entry.now.name (seen_body body.entry.now)
         (at_end (context_in context.entry.now) func.entry.now) (at_end (context_in context.entry.now) func.entry.now)) }
 {
-    Err(AllocError)
+    let mut nodes = Vec::new(alloc);
+    let end = push(&mut nodes, Node::Ends)?;
+    let entry = add_statements(&mut nodes, body, end, end)?;
+    let counts = node_counts(alloc, context, func, &nodes)?;
+    Ok(Graph {
+        context,
+        func,
+        nodes,
+        counts,
+        entry,
+    })
 }

@@ -1,6 +1,7 @@
 //! The bodies of functions as graphs of what follows each statement.
 #![tactic(auto)]
 
+mod adding;
 mod build;
 mod counts;
 mod graph;
