@@ -93,6 +93,20 @@ impl<'p> Sorts<'p> {
         })
     }
 
+    /// The program with its names. It takes no memory.
+    pub fn names(&self) -> &'p ProgramNames<'p>
+        ensures { result.now ≡ self.now.0 }
+    {
+        self.names
+    }
+
+    /// The function. It takes no memory.
+    pub fn func(&self) -> &'p Func
+        ensures { result.now ≡ self.now.1 }
+    {
+        self.func
+    }
+
     // The sort of names with this base. The only error is want of memory, which it is where a length or the number
     // of functions doesn't fit 32 bits.
     fn sort(&self, base: &Name) -> Result<Sort, AllocError>

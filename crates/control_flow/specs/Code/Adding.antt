@@ -1,7 +1,6 @@
 -- Nodes that are added to others, which keep their numbers.
-use Rattle.std.specs.Prelude.{◌≡◌, ℕ, ◌<◌, ◌≤◌, Bool, true, false, List, length, Option, Some, None}
+use Rattle.std.specs.Prelude.{◌≡◌, ℕ, ◌<◌, ◌≤◌, Bool, true, false, List, length}
 use Rattle.c_lang.specs.Names.{Bytes}
-use Rattle.c_lang.specs.declared.unit.Pos.{Pos}
 use Rattle.loop_invariants.specs.Context.{Context}
 use Rattle.weakest_preconditions.specs.Annotated.{Annotated, aside, set, set_element, call, call_by, if_else, while_loop, break_loop, return_with, assert_that, input, output, choice, Body}
 use Rattle.weakest_preconditions.specs.Wp.{Condition, wp, wp_all}
@@ -50,12 +49,3 @@ is_simple (if_else p e a b) = false
 is_simple (while_loop p e a invariants fresh) = false
 is_simple (break_loop p) = false
 is_simple (aside s) = false
-
-abbrev pub is_if : Annotated → Bool
-is_if (if_else p e a b) = true
-is_if t = false
-
--- where a loop begins
-abbrev pub loop_pos : Annotated → Option Pos
-loop_pos (while_loop p e a invariants fresh) = Some p
-loop_pos t = None
