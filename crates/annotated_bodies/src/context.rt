@@ -107,11 +107,7 @@ impl<'p> Context<'p> {
     }
 
     /// Adds the cells that a function may change. The only error is want of memory.
-    pub fn add_assigns<'c>(
-        &'c self,
-        out: &mut Vec<&'c Name>,
-        func: &Name,
-    ) -> Result<(), AllocError>
+    pub fn add_assigns<'c>(&'c self, out: &mut Vec<&'c Name>, func: &Name) -> Result<(), AllocError>
         ensures { OnOk result (names_in out.new.items ≡ names_in out.old.items ++ (context_in self.entry.now).assigns func.now) }
     {
         match self.hints.contract(func) {

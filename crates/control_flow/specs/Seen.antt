@@ -1,39 +1,30 @@
--- Graphs of the code as plain data.
-use Rattle.std.specs.Prelude.{◌≡◌, ⊤, ℕ, ◌<◌, nat_le, if◌then◌else◌, List, [], ◌∷◌, map, length, reverse, All, Option, Some, None}
+-- What contracts see of a graph.
+use Rattle.std.specs.Prelude.{◌≡◌, ⊤, ℕ, ◌<◌, List, [], Option, Some, None}
 use Rattle.weakest_preconditions.specs.Wp.{Condition}
 use Rattle.weakest_preconditions.specs.Conditions.{at_end}
-use Rattle.loop_invariants.specs.Context.{Context}
 use Rattle.annotated_bodies.specs.Sources.{context_in}
-use Rattle.annotated_bodies.specs.Seen.{seen_annotated}
-use Rattle.control_flow.specs.declared.graph.Node as code_node
-use Rattle.control_flow.specs.declared.graph.Node.TheVariants as node
+use Rattle.control_flow.specs.declared.node.Node as code
 use Rattle.control_flow.specs.declared.graph.Graph.{Graph}
 use Rattle.control_flow.specs.Nodes.{Node, ends, turns, does}
-use Rattle.control_flow.specs.Steps.{at_node, conditions_at}
-
-abbrev pub seen_node : code_node.Node → Node
-seen_node node.Ends = ends
-seen_node (node.Turns p invariants) = turns p invariants
-seen_node (node.Does t first second) = does (seen_annotated t.now) first second
-
--- the nodes, the last one first
-abbrev pub nodes_in : Graph → List Node
-nodes_in g = reverse (map seen_node g.nodes.items)
+use Rattle.control_flow.specs.Steps.{at_node}
+use Rattle.control_flow.specs.Kept.{seen_node, conditions_for}
 
 -- the conditions at the node with a number
 abbrev pub conditions_in : Graph → ℕ → List Condition
-conditions_in g n = conditions_at (context_in g.context.now) g.func.now.name (at_end (context_in g.context.now) g.func.now) (nodes_in g) n
+conditions_in g n = conditions_for g.context.now g.func.now g.nodes.items n
 
--- A number that doesn't fit 64 bits is the greatest that does.
-abbrev pub capped : ℕ → ℕ
-capped n = if nat_le n 18446744073709551615 then n else 18446744073709551615
+-- what follows the node has smaller numbers than n
+abbrev pub IsAbove : ℕ → Node → Type 0
+IsAbove n (does t first second) = (first < n) × (second < n)
+IsAbove n ends = ⊤
+IsAbove n (turns p invariants) = ⊤
 
--- what makes the numbers and counts of a graph mean what they should
-abbrev pub IsGraph : Graph → Type 0
-IsGraph g = ⊥
+-- the node with the number n
+pub record IsNode (g : Graph) (n : ℕ) (node : Node) : Type 0 where
+  pub above : IsAbove n node
+  pub conditions : conditions_in g n ≡ at_node (context_in g.context.now) g.func.now.name (at_end (context_in g.context.now) g.func.now) node (conditions_in g)
 
--- what a look at a number finds
-abbrev pub IsNodeAt : Graph → ℕ → Option code_node.Node → Type 0
+-- what a look at a number finds; where there is no node, there are no conditions
+abbrev pub IsNodeAt : Graph → ℕ → Option code.Node → Type 0
 IsNodeAt g n None = conditions_in g n ≡ []
-IsNodeAt g n (Some node) = conditions_in g n
-    ≡ at_node (context_in g.context.now) g.func.now.name (at_end (context_in g.context.now) g.func.now) (seen_node node) (conditions_in g)
+IsNodeAt g n (Some node) = IsNode g n (seen_node node)
