@@ -2,9 +2,11 @@
 #![tactic(auto)]
 
 mod adding;
+mod assigned;
 mod clauses;
 mod copy;
 mod hints;
 mod loops;
 
-pub use hints::{Contract, Hints};
+pub use clauses::Allowed;
+pub use hints::{Contract, Hints, LoopInvariants};
