@@ -7,4 +7,4 @@ mod parts;
 mod read;
 mod subjects;
 
-pub use read::read_hints;
+pub use read::{one_meaning, read_hints};

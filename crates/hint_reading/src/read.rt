@@ -1,8 +1,11 @@
 //! Reads whole texts.
 
-ghost use Rattle.std.specs.Prelude.{◌≡◌, IfOk};
+ghost use Rattle.std.specs.Prelude.{◌≡◌, IfOk, MatchResult};
+ghost use Rattle.c_lang.specs.Names.{Bytes};
+ghost use Rattle.c_lang.specs.declared.program.Program.{Program};
+ghost use Rattle.loop_invariants.specs.Hints.{Hints as HintsData};
 ghost use Rattle.loop_invariants.specs.Fitting.{Fit};
-ghost use Rattle.hint_reading.specs.Reading.{IsAnswer};
+ghost use Rattle.hint_reading.specs.Reading.{AreHints, IsShort, IsAnswer};
 ghost use Rattle.hint_reading.specs.Code.Parts.{ReadsHints, IsCheckedFor, fail_of};
 
 use crate::parts::parts_of;
@@ -58,6 +61,9 @@ fn checked(alloc: Global, names: &ProgramNames<'_>, items: &[Item]) -> Result<Hi
 /// may change which it calls.
 pub fn read_hints(alloc: Global, program: &Typed, bytes: &[u8]) -> Result<Hints, Fail>
     ensures answer { IsAnswer program.now.program bytes.now result }
+    // Unless memory runs out, the hints that a text within the limit says are read from it.
+    ensures only { (hints : HintsData) → IsShort bytes.now → AreHints program.now.program bytes.now hints
+        → MatchResult result (λ read. read ≡ hints) (λ fail. fail ≡ Fail.NoMemory) }
     ensures fit { IfOk result (λ hints. Fit program.now.program hints) }
 {
     let names = ProgramNames::new(alloc, program.program())?;
@@ -67,3 +73,8 @@ pub fn read_hints(alloc: Global, program: &Typed, bytes: &[u8]) -> Result<Hints,
     };
     checked(alloc, &names, items.as_slice())
 }
+
+/// No text says two hints of a program.
+pub fn one_meaning()
+    ensures { (p : Program) (text : Bytes) (some other : HintsData) → AreHints p text some → AreHints p text other → some ≡ other }
+{}

@@ -1,3 +1,4 @@
+pub mod AddedFits
 pub mod AddingLaws
 pub mod EntryTexts
 pub mod Examples

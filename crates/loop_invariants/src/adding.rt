@@ -3,6 +3,7 @@
 ghost use Rattle.std.specs.Prelude.{◌≡◌, ◌++◌, ◌∷◌, [], ◌≤◌, length, IfOk, OnOk, OnErr};
 ghost use Rattle.std.specs.List.{position_or_len};
 ghost use Rattle.loop_invariants.specs.Adding as spec;
+ghost use Rattle.loop_invariants.specs.Fitting.{Fit};
 
 use crate::clauses::Allowed;
 use crate::hints::{Hints, LoopInvariants};
@@ -114,6 +115,8 @@ impl Hints {
         ensures test { IfOk result (λ done. done ≡ spec.may_be_added program.now.program func.now number fact) }
         ensures change { IfOk result (λ done. self.new ≡ spec.added_if done self.old func.now number fact) }
         ensures kept { OnErr result (self.new ≡ self.old) }
+        // Hints that fit the program still do.
+        ensures fit { IfOk result (λ _. Fit program.now.program self.old → Fit program.now.program self.new) }
     {
         let names = ProgramNames::new(alloc, program.program())?;
         if !may_be_added(alloc, &names, func, number, &fact)? {

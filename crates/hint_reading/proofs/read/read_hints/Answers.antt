@@ -4,7 +4,7 @@ use Rattle.hint_texts.specs.declared.hints.Item.{Item}
 use Rattle.loop_invariants.specs.Fitting.{Fit}
 use Rattle.hint_reading.specs.Reading.{IsAnswer}
 use Rattle.hint_reading.specs.Code.Parts.{IsCheckedFor}
-use Rattle.hint_reading.proofs.ReadingLaws.{not_items, as_answer, fits}
+use Rattle.hint_reading.proofs.ReadingLaws.{not_items, as_answer, only, fits}
 use Rattle.hint_reading.proofs.read.read_hints.Goals as goal
 
 pub returns-in-Err-clause-answer : goal.returns-in-Err-clause-answer
@@ -24,3 +24,9 @@ pub returns-clause-fit : goal.returns-clause-fit
 returns-clause-fit c =
     let same : c.in_ok-names.names ≡ c.args.program.now.program = c.in_ok-names.ensures ∙ c.program.ensures.program in
     subst (λ (p : Program). IfOk c.checked.result (λ hints. Fit p hints)) same (fits c.in_ok-names.names c.as_slice.result.now c.checked.result c.checked.ensures)
+
+pub returns-in-Err-clause-only : goal.returns-in-Err-clause-only
+returns-in-Err-clause-only c hints short are = only c.args.program.now.program c.args.bytes.now (Err c.in-Err.fail) (returns-in-Err-clause-answer c) hints short are
+
+pub returns-clause-only : goal.returns-clause-only
+returns-clause-only c hints short are = only c.args.program.now.program c.args.bytes.now c.checked.result (returns-clause-answer c) hints short are
