@@ -24,8 +24,8 @@ use crate::steps::{assume_reached, terms_of, turn};
 use annotated_bodies::{Annotated, Context};
 use c_lang::{Expr, Func, Name, Pos, Stmt};
 use condition_sorts::Sorts;
-use loop_invariants::Facts;
 use expression_conditions::{form, own, own_all, own_element, val};
+use loop_invariants::Facts;
 use std::alloc::{AllocError, Global};
 use symbolic_state::SymbolicState;
 use terms::{Form, Label, Sym, Term, What};
@@ -392,10 +392,16 @@ pub(crate) fn put_statement(
             value,
         } => put_own_element(alloc, site.sorts(), state, made, *pos, array, index, value),
         Stmt::Call {
-            pos, callee, args, ..
+            pos,
+            callee,
+            args,
+            ..
         } => put_call(alloc, site, state, made, *pos, callee, args.as_slice()),
         Stmt::CallBy {
-            pos, pointer, args, ..
+            pos,
+            pointer,
+            args,
+            ..
         } => put_call_by(alloc, site, state, made, *pos, pointer, args.as_slice()),
         Stmt::If { pos, cond, .. } => put_own(alloc, site.sorts(), state, made, *pos, cond),
         Stmt::While { pos, cond, .. } => {

@@ -124,7 +124,14 @@ fn call(
 {
     let terms = terms_of(alloc, context.names(), args)?;
     let promises = context.hints().promises(callee);
-    state.promise(alloc, context.names(), &terms, outcome, cells, promises.as_slice())?;
+    state.promise(
+        alloc,
+        context.names(),
+        &terms,
+        outcome,
+        cells,
+        promises.as_slice(),
+    )?;
     let mut fresh = Vec::new(alloc);
     put_names(alloc, &mut fresh, outcome)?;
     put_names(alloc, &mut fresh, cells)?;

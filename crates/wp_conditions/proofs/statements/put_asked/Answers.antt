@@ -19,7 +19,7 @@ returns-clause-made c =
     let steps : c.pass.new.self ≡ step.Replaces (passing args) ∷ c.args.state.now = search rules in
     let facts : c.needs-needs.result ≡ (context_for c.args.site.now).needs c.args.callee.now = search rules in
     let whole : c.put_goals.new.made ≡ grown c.args.site.now.0 c.args.site.now.2 c.args.made.now
-        (map (finished c.pass.new.self) (goals c.args.pos what.Requires c.needs-needs.result)) = search rules in
+    (map (finished c.pass.new.self) (goals c.args.pos what.Requires c.needs-needs.result)) = search rules in
     whole ∙ ap (grown c.args.site.now.0 c.args.site.now.2 c.args.made.now)
     (ap₂ (λ s fs. map (finished s) (goals c.args.pos what.Requires fs)) steps facts
     ∙ sym (replaced c.args.state.now (passing args) (goals c.args.pos what.Requires ((context_for c.args.site.now).needs c.args.callee.now))))

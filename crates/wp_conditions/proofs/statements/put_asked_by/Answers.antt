@@ -15,7 +15,7 @@ returns-clause-made c =
     let args : List TermTree = map (val (numbers_in c.args.site.now.0)) (map expression_of c.args.args.now) in
     let steps : c.assume_reached.new.state ≡ given_step (is_function (context_for c.args.site.now) c.args.pointer.now c.args.callee.now) c.args.state.now = search rules in
     let whole : c.put_asked.new.made ≡ grown c.args.site.now.0 c.args.site.now.2 c.args.made.now
-        (map (finished c.assume_reached.new.state) (asked (context_for c.args.site.now) c.args.pos c.args.callee.now args)) = search rules in
+    (map (finished c.assume_reached.new.state) (asked (context_for c.args.site.now) c.args.pos c.args.callee.now args)) = search rules in
     whole ∙ ap (grown c.args.site.now.0 c.args.site.now.2 c.args.made.now)
     (ap (λ s. map (finished s) (asked (context_for c.args.site.now) c.args.pos c.args.callee.now args)) steps
     ∙ sym (given c.args.state.now (is_function (context_for c.args.site.now) c.args.pointer.now c.args.callee.now) (asked (context_for c.args.site.now) c.args.pos c.args.callee.now args)))

@@ -15,7 +15,7 @@ returns-clause-made c =
     let steps : c.set_result.new.self ≡ step.Replaces (setting result_base c.args.value.now) ∷ c.args.state.now = search rules in
     let facts : c.promises-promises.result ≡ (context_for c.args.site.now).promises c.args.site.now.2.name = search rules in
     let whole : c.put_goals.new.made ≡ grown c.args.site.now.0 c.args.site.now.2 c.args.made.now
-        (map (finished c.set_result.new.self) (goals c.args.pos what.Ensures c.promises-promises.result)) = search rules in
+    (map (finished c.set_result.new.self) (goals c.args.pos what.Ensures c.promises-promises.result)) = search rules in
     whole ∙ ap (grown c.args.site.now.0 c.args.site.now.2 c.args.made.now)
     (ap₂ (λ s fs. map (finished s) (goals c.args.pos what.Ensures fs)) steps facts
     ∙ sym (replaced c.args.state.now (setting result_base c.args.value.now) (goals c.args.pos what.Ensures ((context_for c.args.site.now).promises c.args.site.now.2.name))))

@@ -15,7 +15,7 @@ use Rattle.wp_conditions.proofs.statements.put_reached.Goals as goal
 pub returns-clause-made : goal.returns-clause-made
 returns-clause-made c =
     let asks : Bytes → List Condition = λ f. implies (is_function (context_for c.args.site.now) c.args.pointer.now f)
-        (asked (context_for c.args.site.now) c.args.pos f (map (val (numbers_in c.args.site.now.0)) (map expression_of c.args.args.now))) in
+    (asked (context_for c.args.site.now) c.args.pos f (map (val (numbers_in c.args.site.now.0)) (map expression_of c.args.args.now))) in
     let funcs : map (λ (d : Func). d.name) (map (λ f. f.now) c.deref.result.now) ≡ (context_for c.args.site.now).reached (length c.args.args.now) = search rules in
     let count : length c.args.args.now ≡ length (map expression_of c.args.args.now) = sym (length-map c.args.args.now expression_of) in
     subst (λ m. OnOk c.put_asked_all.result (c.put_asked_all.new.made ≡ m))

@@ -16,7 +16,7 @@ returns c =
     let args : c.deref.result.now ≡ map (val (numbers_in c.args.context.now.0)) (map expression_of c.args.args.now) = search rules in
     let promises : c.as_slice.result.now ≡ (context_in c.args.context.now).promises c.args.callee.now = search rules in
     let before : c.promise.new.self ≡ assumed (map (replaced_fact (change (returning (context_in c.args.context.now).globals c.deref.result.now c.args.outcome.now c.args.cells.now))) c.as_slice.result.now) c.args.state.now
-        = search rules in
+    = search rules in
     subst (λ s. OnOk c.renew.result (c.renew.new.self ≡ s))
     (λ i. step.Replaces (renewing (fresh i)) ∷ (before ∙ ap₂ (λ ts fs. assumed (map (replaced_fact (change (returning (context_in c.args.context.now).globals ts c.args.outcome.now c.args.cells.now))) fs) c.args.state.now) args promises) i)
     c.renew.ensures
