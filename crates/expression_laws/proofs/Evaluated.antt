@@ -1,7 +1,7 @@
 -- A typed expression whose conditions are true has a value of its kind, and the term and the form that are made of it are
 -- worth that value.
-use Rattle.std.proofs.Common.{◌≡◌, ◌∙◌, ◌<◌, ℕ, ℤ, pos, negsuc, ◌-ℤ◌, ◌≤ℤ◌, Bool, true, false, ◌&&◌, ◌||◌, int_le, IsTrue, [], ◌∷◌, ◌++◌, length, Some, None, refl, sym, ap, subst, arith}
-use Rattle.std.specs.Prelude.{◌^◌, ◌≤◌}
+use Rattle.std.proofs.Common.{◌≡◌, ◌∙◌, ◌<◌, ℕ, ℤ, pos, negsuc, ◌-ℤ◌, ◌≤ℤ◌, Bool, true, false, ◌&&◌, ◌||◌, int_le, IsTrue, List, [], ◌∷◌, ◌++◌, length, Some, None, refl, sym, ap, subst, arith}
+use Rattle.std.specs.Prelude.{⊤, ◌^◌, ◌≤◌}
 use Rattle.std.specs.Option.{option_or}
 use Rattle.std.proofs.Math.ListN.{get_or}
 use Rattle.std.proofs.lemmas.Option.{slice_get-get_or}
@@ -19,8 +19,8 @@ use Rattle.c_types.specs.Names as means
 use Rattle.c_types.specs.Names.{Means, Names}
 use Rattle.c_types.specs.Typing.{IsFunction, IsArray, IsPointer}
 use Rattle.c_types.specs.Expressions.{or_int, kind_of, place_of}
-use Rattle.resolved_types.proofs.ResolvedTyping.{IsInt, IsVariable, IsResolved}
-use Rattle.written_laws.specs.Literals.{IsLiteral, HasInts, largest}
+use Rattle.resolved_types.proofs.ResolvedTyping.{IsInt, IsVariable, IsResolved, AreResolvedArguments}
+use Rattle.written_laws.specs.Literals.{IsLiteral, HasInts, HaveInts, largest}
 use Rattle.terms.specs.Trees as tree
 use Rattle.terms.specs.Trees.{TermTree}
 use Rattle.terms.specs.Truth.{Interpretation, term_at}
@@ -28,8 +28,8 @@ use Rattle.expression_conditions.specs.declared.meaning.Meaning.TheVariants as m
 use Rattle.expression_conditions.specs.Numbers.{Numbers}
 use Rattle.expression_conditions.specs.Candidates as candidate
 use Rattle.expression_conditions.specs.Meanings.{current, meaning, val, form}
-use Rattle.expression_conditions.specs.Owed.{own, is_index, fits, behind, operator_owes}
-use Rattle.expression_laws.proofs.KindedValues.{Gives, HasKind, Fits, AreCurrent, TellsApart}
+use Rattle.expression_conditions.specs.Owed.{own, own_all, own_element, is_index, fits, behind, operator_owes}
+use Rattle.expression_laws.proofs.KindedValues.{Gives, gives_more, HasKind, Fits, AreCurrent, TellsApart}
 use Rattle.expression_laws.proofs.Arithmetic.{and_left, and_right, at_most_test}
 use Rattle.expression_laws.proofs.TrueConditions.{AreMet, IsMet, met_left, met_right}
 use Rattle.expression_laws.proofs.Operators.{after, IsWorth, number_worth, worth_number, negated_worth, denied_worth, operated_worth}
@@ -97,25 +97,30 @@ module _ (Reached : ℕ → Bytes → Type 0) (n : Numbers) (names : Names) (loo
   null_evaluated Int h = absurd h
   null_evaluated (Fp m) h = number_worth Reached n v (Fp m) (tree.number (pos 0)) Null tt refl
 
-  -- the element at an index that its condition keeps within the array
-  element_worth : (a : Bytes) (t : TermTree) (z : ℤ) → names a ≡ means.Array → term_at v t ≡ z → IsMet v (is_index n a t)
-      → Gives (element_at (look.elements a) z) (IsWorth Reached n v Int (meant.Number (tree.read (tree.array (current a)) t)))
-  element_worth a t z known e h =
+  -- an index of the array's elements
+  abbrev pub IsIndex : Bytes → ℤ → Type 0
+  IsIndex a z = (i : ℕ) × (z ≡ pos i) × (i < length (look.elements a))
+
+  index_within : (a : Bytes) (t : TermTree) (z : ℤ) → names a ≡ means.Array → term_at v t ≡ z → IsMet v (is_index n a t) → IsIndex a z
+  index_within a t z known e h =
       let within : IsTrue (int_le (pos 0) z && int_le z (pos (length (look.elements a)) -ℤ pos 1)) =
       subst (λ l. IsTrue (int_le (pos 0) z && int_le z (l -ℤ pos 1))) (fit.lengths a known)
       (subst (λ y. IsTrue (int_le (pos 0) y && int_le y (n.length a -ℤ pos 1))) e (h tt)) in
-      at_index z e (at_most_test (pos 0) z (and_left _ _ within)) (at_most_test z (pos (length (look.elements a)) -ℤ pos 1) (and_right _ _ within))
+      by_sign z (at_most_test (pos 0) z (and_left _ _ within)) (at_most_test z (pos (length (look.elements a)) -ℤ pos 1) (and_right _ _ within))
     where
-      at_index : (z : ℤ) → term_at v t ≡ z → pos 0 ≤ℤ z → z ≤ℤ (pos (length (look.elements a)) -ℤ pos 1)
-          → Gives (element_at (look.elements a) z) (IsWorth Reached n v Int (meant.Number (tree.read (tree.array (current a)) t)))
-      at_index (negsuc i) e low high = absurd (omega (arith, ints, low))
-      at_index (pos i) e low high =
-          let inside : i < length (look.elements a) = omega (arith, ints, high) in
-          let there = slice_get-get_or (look.elements a) i (pos 0) inside in
-          let z = get_or (look.elements a) i (pos 0) in
-          subst (λ o. Gives (found_element o) (IsWorth Reached n v Int (meant.Number (tree.read (tree.array (current a)) t)))) (sym there)
-          (number_worth Reached n v Int (tree.read (tree.array (current a)) t) (Num z) (fit.elements a known i (pos 0) inside)
-          (ap (v.element (current a)) e ∙ currents.elements a known i z there))
+      by_sign : (z : ℤ) → pos 0 ≤ℤ z → z ≤ℤ (pos (length (look.elements a)) -ℤ pos 1) → IsIndex a z
+      by_sign (negsuc i) low high = absurd (omega (arith, ints, low))
+      by_sign (pos i) low high = (i, refl, omega (arith, ints, high))
+
+  element_worth : (a : Bytes) (t : TermTree) (z : ℤ) → names a ≡ means.Array → term_at v t ≡ z → IsIndex a z
+      → Gives (element_at (look.elements a) z) (IsWorth Reached n v Int (meant.Number (tree.read (tree.array (current a)) t)))
+  element_worth a t z known e index =
+      let there = slice_get-get_or (look.elements a) index.0 (pos 0) index.2 in
+      let read = get_or (look.elements a) index.0 (pos 0) in
+      let worth = number_worth Reached n v Int (tree.read (tree.array (current a)) t) (Num read) (fit.elements a known index.0 (pos 0) index.2)
+      (ap (v.element (current a)) (e ∙ index.1) ∙ currents.elements a known index.0 read there) in
+      subst (λ y. Gives (element_at (look.elements a) y) (IsWorth Reached n v Int (meant.Number (tree.read (tree.array (current a)) t)))) (sym index.1)
+      (subst (λ o. Gives (found_element o) (IsWorth Reached n v Int (meant.Number (tree.read (tree.array (current a)) t)))) (sym there) worth)
 
   pub evaluated : (k : Kind) (e : Expression) → IsResolved names k e → HasInts e → MayPoint (λ f. candidate.names f e) → AreMet v (own n e) → IsEvaluated k e
   evaluated k (literal z) h ints points met = literal_evaluated k z h ints
@@ -124,7 +129,8 @@ module _ (Reached : ℕ → Bytes → Type 0) (n : Numbers) (names : Names) (loo
       subst (λ j. IsEvaluated j (element a i)) (sym h.0)
       (after (ev bytes_eq look i) (λ w. element_at (look.elements a) (number w)) (IsWorth Reached n v Int (meaning n i)) (IsWorth Reached n v Int (meaning n (element a i)))
       (evaluated Int i h.2 ints points (met_left v (own n i) (is_index n a (val n i) ∷ []) met))
-      (λ w p. element_worth a (val n i) (number w) (is_array (names a) h.1) (worth_number Reached n v (meaning n i) w p) (met_right v (own n i) (is_index n a (val n i) ∷ []) met).0))
+      (λ w p. let same = worth_number Reached n v (meaning n i) w p in let known = is_array (names a) h.1 in
+      element_worth a (val n i) (number w) known same (index_within a (val n i) (number w) known same (met_right v (own n i) (is_index n a (val n i) ∷ []) met).0)))
   evaluated k (function f) h ints points met = function_evaluated k f h points
   evaluated k null h ints points met = null_evaluated k h
   evaluated k (negation e) h ints points met =
@@ -146,3 +152,39 @@ module _ (Reached : ℕ → Bytes → Type 0) (n : Numbers) (names : Names) (loo
       (evaluated (place_of names o a b) a h.1 ints.0 (λ f m named. points f m (one_of_two (candidate.names f a) (candidate.names f b) named)) (met_left v (own n a) rest met))
       (λ met_b. evaluated (place_of names o a b) b h.2 ints.1 (λ f m named. points f m (other_of_two (candidate.names f a) (candidate.names f b) named)) met_b)
       (met_right v (own n a) rest met))
+
+  -- ---- expressions one after the other
+
+  abbrev pub AreEvaluated : List Kind → List Expression → Type 0
+  AreEvaluated [] [] = ⊤
+  AreEvaluated [] (e ∷ es) = ⊥
+  AreEvaluated (k ∷ ks) [] = ⊥
+  AreEvaluated (k ∷ ks) (e ∷ es) = IsEvaluated k e × AreEvaluated ks es
+
+  pub all_evaluated : (ks : List Kind) (es : List Expression) → AreResolvedArguments names ks es → HaveInts es → MayPoint (λ f. candidate.some_names f es)
+      → AreMet v (own_all n es) → AreEvaluated ks es
+  all_evaluated [] [] h ints points met = tt
+  all_evaluated [] (e ∷ es) h ints points met = absurd h
+  all_evaluated (k ∷ ks) [] h ints points met = absurd h
+  all_evaluated (k ∷ ks) (e ∷ es) h ints points met = (
+    evaluated k e h.0 ints.0 (λ f m named. points f m (one_of_two (candidate.names f e) (candidate.some_names f es) named)) (met_left v (own n e) (own_all n es) met),
+    all_evaluated ks es h.1 ints.1 (λ f m named. points f m (other_of_two (candidate.names f e) (candidate.some_names f es) named)) (met_right v (own n e) (own_all n es) met),
+  )
+
+  -- ---- an assignment of a value to an element
+
+  pub record IsElementSet (a : Bytes) (i e : Expression) : Type 0 where
+    pub index : Gives (ev bytes_eq look i) (λ w. IsWorth Reached n v Int (meaning n i) w × IsIndex a (number w))
+    pub value : IsEvaluated Int e
+
+  pub element_set : (a : Bytes) (i e : Expression) → IsArray (names a) → IsResolved names Int i → IsResolved names Int e → HasInts i → HasInts e
+      → MayPoint (λ f. candidate.names f i || candidate.names f e) → AreMet v (own_element n a i e) → IsElementSet a i e
+  element_set a i e array h_i h_e ints_i ints_e points met =
+      let last = is_index n a (val n i) ∷ [] in
+      let rest = met_right v (own n i) (own n e ++ last) met in
+      let at_i = evaluated Int i h_i ints_i (λ f m named. points f m (one_of_two (candidate.names f i) (candidate.names f e) named)) (met_left v (own n i) (own n e ++ last) met) in
+      record {
+        index = gives_more (ev bytes_eq look i) (IsWorth Reached n v Int (meaning n i)) (λ w. IsWorth Reached n v Int (meaning n i) w × IsIndex a (number w))
+            (λ w p. (p, index_within a (val n i) (number w) (is_array (names a) array) (worth_number Reached n v (meaning n i) w p) (met_right v (own n e) last rest).0)) at_i;
+        value = evaluated Int e h_e ints_e (λ f m named. points f m (other_of_two (candidate.names f i) (candidate.names f e) named)) (met_left v (own n e) last rest);
+      }
