@@ -1,12 +1,13 @@
 -- The tests of conditions and those of evaluation agree.
-use Rattle.std.proofs.Common.{◌≡◌, ◌^◌, ◌<◌, zero, suc, ℤ, pos, negsuc, ◌+ℤ◌, ◌-ℤ◌, ◌*ℤ◌, ◌≤ℤ◌, ◌<ℤ◌, Bool, true, false, ◌&&◌, int_le, int_lt, IsTrue, if◌then◌else◌, refl, arith, Ok, Err}
-use Rattle.std.specs.Prelude.{int_div, int_rem}
+use Rattle.std.proofs.Common.{◌≡◌, ◌∙◌, ◌^◌, ◌<◌, ◌≤◌, ℕ, zero, suc, ℤ, pos, negsuc, ◌+ℤ◌, ◌-ℤ◌, ◌*ℤ◌, ◌≤ℤ◌, ◌<ℤ◌, Bool, true, false, not, ◌&&◌, int_le, int_lt, IsTrue, if◌then◌else◌, refl, sym, ap, arith, Ok, Err}
+use Rattle.std.specs.Prelude.{int_div, int_rem, unsigned_abs}
 use Rattle.std.specs.Ordering.{int_eq}
-use Rattle.std.proofs.lemmas.Int.{ints, quot-rem}
+use Rattle.std.proofs.lemmas.Int.{ints, quot-rem, rem_below}
 use Rattle.std.proofs.lemmas.Bool.Decides.{Decides-int_eq, nat_tests}
 use Rattle.c_lang.specs.Names.{Bytes}
 use Rattle.c_lang.specs.declared.event.Trap.TheVariants as trap
 use Rattle.c_lang.specs.Values.{Value, Num, fits_int, is_zero, in_range}
+use Rattle.terms.specs.Truth.{number_of, quotient_of, remainder_of}
 use Rattle.expression_conditions.specs.Owed.{least_int, greatest_int}
 use Rattle.expression_laws.proofs.KindedValues.{Gives}
 
@@ -57,3 +58,57 @@ range_gives z h = by_bool (fits_int z) h
     by_bool : (b : Bool) → IsTrue b → Gives (if b then Ok (Num z) else Err trap.Overflow) (λ (v : Value Bytes). v ≡ Num z)
     by_bool true h = refl
     by_bool false h = absurd cc
+
+-- ---- truth values
+
+pub true_false : true ≡ false → ⊥
+true_false e = cc
+
+-- a truth value's number isn't 0 exactly where it is true
+pub truth_back : (b : Bool) → b ≡ not (is_zero (number_of b))
+truth_back true = refl
+truth_back false = refl
+
+pub not_zero : (z : ℤ) → not (int_eq z (pos 0)) ≡ not (is_zero z)
+not_zero z = ap not (sym (zero_test z))
+
+pub double_not : (b : Bool) → not (not b) ≡ b
+double_not true = refl
+double_not false = refl
+
+pub small_number : (b : Bool) → IsTrue (fits_int (number_of b))
+small_number true = refl
+small_number false = refl
+
+-- ---- quotients and remainders as formulas have them
+
+pub not_zero_false : (z : ℤ) → IsTrue (not (int_eq z (pos 0))) → is_zero z ≡ false
+not_zero_false (pos zero) h = absurd cc
+not_zero_false (pos (suc m)) h = refl
+not_zero_false (negsuc m) h = refl
+
+pub quotient_is : (x y : ℤ) → is_zero y ≡ false → quotient_of x y ≡ int_div x y
+quotient_is x y e = ap (λ b. if b then pos 0 else int_div x y) (sym (zero_test y) ∙ e)
+
+pub remainder_is : (x y : ℤ) → is_zero y ≡ false → remainder_of x y ≡ int_rem x y
+remainder_is x y e = ap (λ q. x -ℤ (q *ℤ y)) (quotient_is x y e) ∙ sym (remainder_test x y)
+
+-- a remainder is smaller than its divisor
+pub remainder_fits : (x y : ℤ) → is_zero y ≡ false → IsTrue (fits_int y) → IsTrue (fits_int (int_rem x y))
+remainder_fits x y e h = small (int_rem x y) (trans_less (rem_below x y (above y e)) (size y h))
+  where
+    above : (y : ℤ) → is_zero y ≡ false → 0 < unsigned_abs y
+    above (pos zero) e = absurd cc
+    above (pos (suc m)) e = omega arith
+    above (negsuc m) e = omega arith
+
+    size : (y : ℤ) → IsTrue (fits_int y) → unsigned_abs y ≤ 2 ^ 31
+    size (pos m) h = let less : m < 2 ^ 31 = grind (arith, nat_tests, h) in omega (arith, less)
+    size (negsuc m) h = let less : m < 2 ^ 31 = grind (arith, nat_tests, h) in omega (arith, less)
+
+    trans_less : {a b c : ℕ} → a < b → b ≤ c → a < c
+    trans_less p q = omega (arith, p, q)
+
+    small : (z : ℤ) → unsigned_abs z < 2 ^ 31 → IsTrue (fits_int z)
+    small (pos m) less = grind (arith, nat_tests, less)
+    small (negsuc m) less = let below : m < 2 ^ 31 = omega (arith, less) in grind (arith, nat_tests, below)

@@ -1,5 +1,5 @@
 -- Which values a place of a kind may have, and when a frame's names have values of the kinds that they are declared with.
-use Rattle.std.specs.Prelude.{⊤, ◌≡◌, ℕ, ℤ, pos, IsTrue, length, All}
+use Rattle.std.specs.Prelude.{⊤, ◌≡◌, ◌<ℤ◌, ℕ, ℤ, pos, IsTrue, length, slice_get, All, Some}
 use Rattle.std.proofs.Common.{refl, Result, Ok, Err}
 use Rattle.c_lang.specs.Names.{Bytes}
 use Rattle.c_lang.specs.Values.{Value, Num, Code, Null, fits_int, number}
@@ -8,7 +8,9 @@ use Rattle.c_lang.specs.declared.event.Trap.{Trap}
 use Rattle.c_lang.specs.declared.stmt.Kind.{Kind}
 use Rattle.c_lang.specs.declared.stmt.Kind.TheVariants.{Int, Fp}
 use Rattle.c_types.specs.Names.{Cell, Array, Names}
+use Rattle.terms.specs.Truth.{Interpretation}
 use Rattle.expression_conditions.specs.Numbers.{Numbers}
+use Rattle.expression_conditions.specs.Meanings.{current}
 
 -- there is a value, and P holds of it
 abbrev pub Gives : {A : Type 0} → Result A Trap → (A → Type 0) → Type 0
@@ -50,3 +52,13 @@ module _ (Reached : ℕ → Bytes → Type 0) where
     pub elements : (a : Bytes) → names a ≡ Array → All (λ (z : ℤ). IsTrue (fits_int z)) (look.elements a)
     pub lengths : (a : Bytes) → names a ≡ Array → n.length a ≡ pos (length (look.elements a))
     pub code : (f : Bytes) → look.code f ≡ f
+
+  -- the functions that pointers may have are told apart by their numbers, and from null
+  pub record TellsApart (n : Numbers) : Type 0 where
+    pub apart : (m : ℕ) (f g : Bytes) → Reached m f → Reached m g → n.function f ≡ n.function g → f ≡ g
+    pub above : (m : ℕ) (f : Bytes) → Reached m f → pos 0 <ℤ n.function f
+
+-- the current values of formulas are the frame's
+pub record AreCurrent (n : Numbers) (names : Names) (look : Look Bytes) (v : Interpretation) : Type 0 where
+  pub values : (x : Bytes) (k : Kind) → names x ≡ Cell k → v.value (current x) ≡ value_number n (look.value x)
+  pub elements : (a : Bytes) → names a ≡ Array → (i : ℕ) (z : ℤ) → slice_get (look.elements a) i ≡ Some z → v.element (current a) (pos i) ≡ z

@@ -1,3 +1,5 @@
 pub mod KindedValues
 pub mod Arithmetic
+pub mod TrueConditions
+pub mod Operators
 pub mod Evaluated
