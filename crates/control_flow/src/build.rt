@@ -12,7 +12,8 @@ use annotated_bodies::{Annotated, Context};
 use c_lang::Func;
 use std::alloc::{AllocError, Global};
 
-/// The graph of a function's body, from its annotated statements. The only error is want of memory.
+/// The graph of a function's body, from its annotated statements. The conditions at its entry are those of the whole
+/// body. The only error is want of memory.
 pub fn control_flow<'p>(
     alloc: Global,
     context: &'p Context<'p>,

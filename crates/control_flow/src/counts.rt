@@ -25,6 +25,7 @@ struct Counting<'p> {
     func: &'p Func,
 }
 
+// A number that doesn't fit 64 bits is the greatest that does.
 fn sum(left: u64, right: u64) -> u64
     ensures { result ≡ capped (left + right) }
 {
@@ -45,18 +46,21 @@ impl Counting<'_> {
         Ok(sum(own(self.alloc, expr)?.len() as u64, first))
     }
 
+    // Those that a condition owes, and these behind it where it holds and where it doesn't.
     fn behind_two(&self, expr: &Expr, first: u64, second: u64) -> Result<u64, AllocError>
         ensures { IfOk result (λ count. count ≡ capped (length (owed.own (context_in self.now.context.now).numbers (expression_of expr.now)) + (first + second))) }
     {
         self.behind(expr, sum(first, second))
     }
 
+    // Those that an assertion's condition owes, the assertion, and these behind it.
     fn behind_assertion(&self, expr: &Expr, first: u64) -> Result<u64, AllocError>
         ensures { IfOk result (λ count. count ≡ capped (length (owed.own (context_in self.now.context.now).numbers (expression_of expr.now)) + suc first)) }
     {
         self.behind(expr, sum(1, first))
     }
 
+    // A loop's invariants where it begins, and what stands in its turn and behind it.
     fn in_loop(
         &self,
         invariants: &Facts<'_>,
@@ -71,6 +75,7 @@ impl Counting<'_> {
         Ok(sum(invariants.as_slice().len() as u64, turn))
     }
 
+    // Those that an assignment to an element owes, and these behind it.
     fn behind_element(
         &self,
         array: &Name,
@@ -85,6 +90,7 @@ impl Counting<'_> {
         Ok(sum(own.len() as u64, first))
     }
 
+    // Those that arguments owe, and these behind them.
     fn behind_all(&self, exprs: &[Expr], first: u64) -> Result<u64, AllocError>
         ensures { IfOk result (λ count. count
             ≡ capped (length (owed.own_all (context_in self.now.context.now).numbers (map expression_of exprs.now)) + first)) }
@@ -92,6 +98,7 @@ impl Counting<'_> {
         Ok(sum(own_all(self.alloc, exprs)?.len() as u64, first))
     }
 
+    // What the function promises.
     fn promised(&self) -> u64
         ensures { result ≡ length ((context_in self.now.context.now).promises self.now.func.now.name) }
     {
@@ -102,12 +109,14 @@ impl Counting<'_> {
             .len() as u64
     }
 
+    // What a call of the function asks.
     fn needed(&self, callee: &Name) -> u64
         ensures { result ≡ length ((context_in self.now.context.now).needs callee.now) }
     {
         self.context.hints().needs(callee).as_slice().len() as u64
     }
 
+    // Those of a call, and these behind it.
     fn call(&self, callee: &Name, args: &[Expr], first: u64) -> Result<u64, AllocError>
         ensures { IfOk result (λ count. count
             ≡ capped (length (owed.own_all (context_in self.now.context.now).numbers (map expression_of args.now))
@@ -136,6 +145,7 @@ impl Counting<'_> {
         sum(1, sum(self.needed_by(funcs), next))
     }
 
+    // Those of a call through a pointer, and these behind it for each function that it may reach.
     fn call_by(&self, args: &[Expr], first: u64) -> Result<u64, AllocError>
         ensures { IfOk result (λ count. count
             ≡ capped (length (owed.own_all (context_in self.now.context.now).numbers (map expression_of args.now))
@@ -146,6 +156,7 @@ impl Counting<'_> {
         self.behind_all(args, self.called(&reached, first))
     }
 
+    // Those at a statement, where there are so many at each node that follows it.
     fn at_statement(
         &self,
         annotated: &Annotated<'_>,
@@ -198,6 +209,7 @@ impl Counting<'_> {
         }
     }
 
+    // Those at a node, where the nodes before it are counted.
     fn at_node(&self, node: &Node<'_>, counts: &[u64]) -> Result<u64, AllocError>
         ensures { IfOk result (λ count. count ≡ capped (node_count (context_in self.now.context.now) self.now.func.now.name
             (length (at_end (context_in self.now.context.now) self.now.func.now)) (seen_node node.now) (λ k. get_or counts.now k 0))) }
@@ -214,7 +226,8 @@ impl Counting<'_> {
     }
 }
 
-fn count_at(counts: &[u64], number: usize) -> u64
+/// The count of the node with a number, and 0 where no node has it. It takes no memory.
+pub(crate) fn count_at(counts: &[u64], number: usize) -> u64
     ensures { result ≡ get_or counts.now number 0 }
 {
     match counts.get(number) {

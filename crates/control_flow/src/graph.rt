@@ -2,10 +2,12 @@ ghost use Rattle.std.specs.Prelude.{◌≡◌, true};
 ghost use Rattle.control_flow.specs.Kept.{nodes_of, are_ordered, HasCounts};
 
 use crate::Node;
+use crate::counts::count_at;
 use annotated_bodies::Context;
 use c_lang::Func;
 
-/// The nodes of a function's body, from its end to its front, and the number of conditions at each.
+/// The nodes of a function's body, from its end to its front, and the number of conditions at each. They are numbered
+/// from 0 on.
 pub struct Graph<'p> {
     pub(crate) context: &'p Context<'p>,
     pub(crate) func: &'p Func,
@@ -42,7 +44,8 @@ impl<'p> Graph<'p> {
         self.entry
     }
 
-    /// The node with a number, if there is one. It takes no memory.
+    /// The node with a number, if there is one. What follows it has smaller numbers, and the conditions at it are its
+    /// own in front of theirs. It takes no memory.
     pub fn node(&self, number: usize) -> Option<&Node<'p>>
         ensures { IsNodeAt self.now number (option_copied result) }
     {
@@ -54,9 +57,6 @@ impl<'p> Graph<'p> {
     pub fn count(&self, number: usize) -> u64
         ensures { result ≡ capped (length (conditions_in self.now number)) }
     {
-        match self.counts.get(number) {
-            Some(count) => *count,
-            None => 0,
-        }
+        count_at(&self.counts, number)
     }
 }

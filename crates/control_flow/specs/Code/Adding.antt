@@ -34,7 +34,7 @@ pub record IsAdded (meaning : Meaning) (old new : List Node) (next brk number : 
   pub conditions : (c : Context) (func : Bytes) (end : List Condition) →
       conditions_at c func end new number ≡ meaning c func (conditions_at c func end old next) (conditions_at c func end old brk)
 
--- whether it is a statement of its own without statements in it
+-- whether it has a node and no statements in it
 abbrev pub is_simple : Annotated → Bool
 is_simple (set p d e) = true
 is_simple (set_element p a i e) = true

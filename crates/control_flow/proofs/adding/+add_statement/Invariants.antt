@@ -2,7 +2,7 @@ use Rattle.std.proofs.Common.{◌+◌, ◌*◌}
 use Rattle.annotated_bodies.specs.Seen.{seen_body}
 use Rattle.control_flow.specs.Kept.{nodes_of}
 use Rattle.control_flow.specs.Code.Adding.{of_body, IsAdded}
-use Rattle.control_flow.proofs.AddingLaws.{passed}
+use Rattle.control_flow.proofs.Passed.{passed}
 use Rattle.control_flow.proofs.adding.+add_statement.Given as goal
 
 abbrev pub invariant-add_statements-loop-annotated : goal.invariant-add_statements-loop-annotated

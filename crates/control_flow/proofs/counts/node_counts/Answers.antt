@@ -3,7 +3,7 @@ use Rattle.weakest_preconditions.specs.Conditions.{at_end}
 use Rattle.annotated_bodies.specs.Sources.{context_in}
 use Rattle.control_flow.specs.Kept.{seen_node, capped}
 use Rattle.control_flow.specs.Code.Counting.{node_count}
-use Rattle.control_flow.proofs.CountsLaws.{all_right, one_right, long_more}
+use Rattle.control_flow.proofs.AllCounts.{all_right, one_right, long_more}
 use Rattle.control_flow.proofs.counts.node_counts.Goals as goal
 
 pub returns : goal.returns

@@ -1,7 +1,7 @@
 use Rattle.std.proofs.Common.{◌+◌, ap, ◌∙◌}
 use Rattle.annotated_bodies.specs.Sources.{context_in}
 use Rattle.control_flow.specs.Kept.{capped}
-use Rattle.control_flow.proofs.CountingLaws.{as_many}
+use Rattle.control_flow.proofs.NodeCounts.{as_many}
 use Rattle.control_flow.proofs.counts.Counting.behind_all.Goals as goal
 
 pub returns : goal.returns

@@ -3,7 +3,7 @@ use Rattle.std.proofs.lemmas.List.{length-map}
 use Rattle.weakest_preconditions.specs.Counted.{asked_count}
 use Rattle.annotated_bodies.specs.Sources.{context_in}
 use Rattle.control_flow.specs.Kept.{capped}
-use Rattle.control_flow.proofs.CountingLaws.{called}
+use Rattle.control_flow.proofs.NodeCounts.{called}
 use Rattle.control_flow.proofs.counts.Counting.called.Goals as goal
 
 pub returns : goal.returns

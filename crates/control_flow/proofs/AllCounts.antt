@@ -14,7 +14,7 @@ use Rattle.control_flow.specs.Kept.{seen_node, nodes_of, are_ordered, capped, co
 use Rattle.control_flow.specs.Code.Counting.{node_count}
 use Rattle.control_flow.proofs.NodeLaws.{IsFound}
 use Rattle.control_flow.proofs.GraphLaws.{found_in, past_in}
-use Rattle.control_flow.proofs.CountingLaws.{node_counted}
+use Rattle.control_flow.proofs.NodeCounts.{node_counted}
 
 module _ (s : Sources) (f : Func) (nodes : List code.Node) where
   -- the first n counts are right
