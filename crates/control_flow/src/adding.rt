@@ -12,7 +12,7 @@ use c_lang::Stmt;
 use std::alloc::AllocError;
 
 /// Adds a node, and gives its number. The only error is want of memory.
-pub(crate) fn push<'p>(nodes: &mut Vec<Node<'p>>, node: Node<'p>) -> Result<usize, AllocError>
+pub(crate) fn push<'b, 'p>(nodes: &mut Vec<Node<'b, 'p>>, node: Node<'b, 'p>) -> Result<usize, AllocError>
     ensures added { OnOk result (nodes_of nodes.new.items ≡ seen_node node.entry ∷ nodes_of nodes.old.items) }
     ensures number { IfOk result (λ number. number ≡ length (nodes_of nodes.old.items)) }
 {
@@ -22,9 +22,9 @@ pub(crate) fn push<'p>(nodes: &mut Vec<Node<'p>>, node: Node<'p>) -> Result<usiz
 }
 
 // Adds the node of a statement, where these follow it.
-fn push_statement<'p>(
-    nodes: &mut Vec<Node<'p>>,
-    stmt: &'p Annotated<'p>,
+fn push_statement<'b, 'p>(
+    nodes: &mut Vec<Node<'b, 'p>>,
+    stmt: &'b Annotated<'p>,
     first: usize,
     second: usize,
 ) -> Result<usize, AllocError>
@@ -42,9 +42,9 @@ fn push_statement<'p>(
 }
 
 // A statement without statements in it.
-fn add_simple<'p>(
-    nodes: &mut Vec<Node<'p>>,
-    stmt: &'p Annotated<'p>,
+fn add_simple<'b, 'p>(
+    nodes: &mut Vec<Node<'b, 'p>>,
+    stmt: &'b Annotated<'p>,
     next: usize,
 ) -> Result<usize, AllocError>
     requires { is_simple (seen_annotated stmt.now) ≡ true }
@@ -55,9 +55,9 @@ fn add_simple<'p>(
 }
 
 #[cycle(add_statement)]
-fn add_statement<'p>(
-    nodes: &mut Vec<Node<'p>>,
-    annotated: &'p Annotated<'p>,
+fn add_statement<'b, 'p>(
+    nodes: &mut Vec<Node<'b, 'p>>,
+    annotated: &'b Annotated<'p>,
     next: usize,
     brk: usize,
 ) -> Result<usize, AllocError>
@@ -97,9 +97,9 @@ fn add_statement<'p>(
 /// `brk` of what follows the loop that they are in. Gives the number with which they begin. The only error is want of
 /// memory.
 #[cycle(add_statement)]
-pub(crate) fn add_statements<'p>(
-    nodes: &mut Vec<Node<'p>>,
-    body: &'p [Annotated<'p>],
+pub(crate) fn add_statements<'b, 'p>(
+    nodes: &mut Vec<Node<'b, 'p>>,
+    body: &'b [Annotated<'p>],
     next: usize,
     brk: usize,
 ) -> Result<usize, AllocError>

@@ -14,12 +14,12 @@ use std::alloc::{AllocError, Global};
 
 /// The graph of a function's body, from its annotated statements. The conditions at its entry are those of the whole
 /// body. The only error is want of memory.
-pub fn control_flow<'p>(
+pub fn control_flow<'b, 'p>(
     alloc: Global,
     context: &'p Context<'p>,
     func: &'p Func,
-    body: &'p [Annotated<'p>],
-) -> Result<Graph<'p>, AllocError>
+    body: &'b [Annotated<'p>],
+) -> Result<Graph<'b, 'p>, AllocError>
     ensures context { IfOk result (λ graph. graph.context.now ≡ context.entry.now) }
     ensures func { IfOk result (λ graph. graph.func.now ≡ func.entry.now) }
     ensures conditions { IfOk result (λ graph. conditions_in graph graph.entry

@@ -210,7 +210,7 @@ impl Counting<'_> {
     }
 
     // Those at a node, where the nodes before it are counted.
-    fn at_node(&self, node: &Node<'_>, counts: &[u64]) -> Result<u64, AllocError>
+    fn at_node(&self, node: &Node<'_, '_>, counts: &[u64]) -> Result<u64, AllocError>
         ensures { IfOk result (λ count. count ≡ capped (node_count (context_in self.now.context.now) self.now.func.now.name
             (length (at_end (context_in self.now.context.now) self.now.func.now)) (seen_node node.now) (λ k. get_or counts.now k 0))) }
     {
@@ -241,7 +241,7 @@ pub(crate) fn node_counts(
     alloc: Global,
     context: &Context<'_>,
     func: &Func,
-    nodes: &[Node<'_>],
+    nodes: &[Node<'_, '_>],
 ) -> Result<Vec<u64>, AllocError>
     requires { are_ordered (nodes_of nodes.now) ≡ true }
     ensures { IfOk result (λ counts. HasCounts context.entry.now func.entry.now nodes.now counts.items) }

@@ -8,10 +8,10 @@ use c_lang::Func;
 
 /// The nodes of a function's body, from its end to its front, and the number of conditions at each. They are numbered
 /// from 0 on.
-pub struct Graph<'p> {
+pub struct Graph<'b, 'p> {
     pub(crate) context: &'p Context<'p>,
     pub(crate) func: &'p Func,
-    pub(crate) nodes: Vec<Node<'p>>,
+    pub(crate) nodes: Vec<Node<'b, 'p>>,
     pub(crate) counts: Vec<u64>,
     pub(crate) entry: usize,
     ghost ordered: { are_ordered (nodes_of nodes.items) ≡ true },
@@ -19,7 +19,7 @@ pub struct Graph<'p> {
 }
 
 // By hand, so that a proof has one step for each that is dropped.
-impl Drop for Graph<'_> {
+impl Drop for Graph<'_, '_> {
     fn drop(self) {
         let Graph {
             context: _context,
@@ -31,7 +31,7 @@ impl Drop for Graph<'_> {
     }
 }
 
-impl<'p> Graph<'p> {
+impl<'b, 'p> Graph<'b, 'p> {
     ghost use Rattle.std.specs.Prelude.{length};
     ghost use Rattle.std.specs.Option.{option_copied};
     ghost use Rattle.control_flow.specs.Kept.{capped};
@@ -46,7 +46,7 @@ impl<'p> Graph<'p> {
 
     /// The node with a number, if there is one. What follows it has smaller numbers, and the conditions at it are its
     /// own in front of theirs. It takes no memory.
-    pub fn node(&self, number: usize) -> Option<&Node<'p>>
+    pub fn node(&self, number: usize) -> Option<&Node<'b, 'p>>
         ensures { IsNodeAt self.now number (option_copied result) }
     {
         self.nodes.get(number)

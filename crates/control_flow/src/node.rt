@@ -7,11 +7,11 @@ use loop_invariants::Facts;
 /// and what follows the loop. Of a statement that only one node follows, this is the first, and of a `return` neither
 /// counts.
 #[derive(Debug, Drop)]
-pub enum Node<'p> {
+pub enum Node<'b, 'p> {
     Ends,
     Turns(Pos, Facts<'p>),
     Does {
-        stmt: &'p Annotated<'p>,
+        stmt: &'b Annotated<'p>,
         first: usize,
         second: usize,
     },

@@ -35,7 +35,7 @@ module _ (S : List Step) where
   then_more : (a b m : List Condition) → map (finished S) b ≡ m → map (finished S) (a ++ b) ≡ map (finished S) a ++ m
   then_more a b m e = map-append (finished S) a b ∙ ap (λ l. map (finished S) a ++ l) e
 
-all_given : (fs : List Fact) (S : List Step) (l : List Condition) → map (finished S) (all_imply fs l) ≡ map (finished (assumed fs S)) l
+pub all_given : (fs : List Fact) (S : List Step) (l : List Condition) → map (finished S) (all_imply fs l) ≡ map (finished (assumed fs S)) l
 all_given [] S l = refl
 all_given (f ∷ fs) S l = map-map (finished S) (under f) (all_imply fs l) ∙ all_given fs (stepped.Assumes f ∷ S) l
 

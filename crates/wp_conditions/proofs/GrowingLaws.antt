@@ -74,3 +74,8 @@ each_is p f m g make (x ∷ xs) =
     each_is p f (grown p f m (map g (make x))) g make xs
     ∙ sym (grown_append p f m (map g (make x)) (map g (flat_map make xs)))
     ∙ ap (grown p f m) (sym (map-append g (make x) (flat_map make xs)))
+
+-- once it is too large it stays so
+pub full_stays : (p : Program) (f : Func) (l : List Condition) → grown p f None l ≡ None
+full_stays p f [] = refl
+full_stays p f (s ∷ l) = full_stays p f l

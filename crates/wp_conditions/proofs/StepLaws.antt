@@ -21,7 +21,7 @@ pub record Extends (steps longer : List Step) : Type 0 where
   pub longer_is : length steps ≤ length longer
   pub outer : (n : ℕ) → n ≤ length steps → outermost n longer ≡ outermost n steps
 
-itself : (steps : List Step) → Extends steps steps
+pub itself : (steps : List Step) → Extends steps steps
 itself steps = record { longer_is = omega arith; outer = λ n within. refl }
 
 one_more : (s : Step) (steps longer : List Step) → Extends steps longer → Extends steps (s ∷ longer)

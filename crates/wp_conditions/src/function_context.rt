@@ -10,9 +10,9 @@ use std::marker::Model;
 
 /// A function with the program and the hints, which contracts see as these three in the order program, hints,
 /// function.
-pub(crate) struct FunctionContext<'c> {
-    context: &'c Context<'c>,
-    sorts: Sorts<'c>,
+pub(crate) struct FunctionContext<'p> {
+    context: &'p Context<'p>,
+    sorts: Sorts<'p>,
 }
 
 // By hand, so that a proof has one step for each that is dropped.
@@ -25,7 +25,7 @@ impl Drop for FunctionContext<'_> {
     }
 }
 
-impl<'c> Model for FunctionContext<'c> {
+impl<'p> Model for FunctionContext<'p> {
     ghost use Rattle.std.specs.Prelude.{◌≡◌};
     ghost use Rattle.std.specs.Coded.{codes, coded×};
     ghost use Rattle.c_lang.specs.declared.program.Func.{Func};
@@ -44,13 +44,13 @@ impl<'c> Model for FunctionContext<'c> {
     ghost invariant = { λ f. f.sorts.0 ≡ f.context.now.0 };
 }
 
-impl<'c> FunctionContext<'c> {
+impl<'p> FunctionContext<'p> {
     /// What the conditions of this function are made from. The only error is want of memory.
     pub(crate) fn new(
         alloc: Global,
-        context: &'c Context<'c>,
-        func: &'c Func,
-    ) -> Result<FunctionContext<'c>, AllocError>
+        context: &'p Context<'p>,
+        func: &'p Func,
+    ) -> Result<FunctionContext<'p>, AllocError>
         ensures { IfOk result (λ made. made ≡ (context.entry.now.0, context.entry.now.1, func.entry.now)) }
     {
         let sorts = Sorts::new(alloc, context.names(), func)?;
@@ -58,21 +58,21 @@ impl<'c> FunctionContext<'c> {
     }
 
     /// What is read of the program and of the hints. It takes no memory.
-    pub(crate) fn context(&self) -> &'c Context<'c>
+    pub(crate) fn context(&self) -> &'p Context<'p>
         ensures { result.now ≡ (self.now.0, self.now.1) }
     {
         self.context
     }
 
     /// The sorts of the names. It takes no memory.
-    pub(crate) fn sorts(&self) -> &Sorts<'c>
+    pub(crate) fn sorts(&self) -> &Sorts<'p>
         ensures { result.now ≡ (self.now.0, self.now.2) }
     {
         &self.sorts
     }
 
     /// The function. It takes no memory.
-    pub(crate) fn func(&self) -> &'c Func
+    pub(crate) fn func(&self) -> &'p Func
         ensures { result.now ≡ self.now.2 }
     {
         self.sorts.func()

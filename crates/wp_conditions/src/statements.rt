@@ -11,6 +11,7 @@ ghost use Rattle.expression_conditions.specs.Numbers.{numbers_in};
 ghost use Rattle.expression_conditions.specs.Owed as owing;
 ghost use Rattle.weakest_preconditions.specs.Annotated.{return_with};
 ghost use Rattle.weakest_preconditions.specs.Wp as wp;
+ghost use Rattle.weakest_preconditions.specs.Conditions.{at_end};
 ghost use Rattle.annotated_bodies.specs.Sources.{context_in};
 ghost use Rattle.annotated_bodies.specs.Seen.{seen_annotated};
 ghost use Rattle.symbolic_state.specs.Steps.{finished};
@@ -426,4 +427,26 @@ pub(crate) fn put_statement(
         Stmt::Force { .. } => Ok(()),
         Stmt::Pick { .. } => Ok(()),
     }
+}
+
+/// What has to hold where the end of the body is reached. What stands round it stays. The only error is want of
+/// memory.
+pub(crate) fn put_end(
+    alloc: Global,
+    site: &FunctionContext<'_>,
+    state: &mut SymbolicState,
+    made: &mut Made,
+) -> Result<(), AllocError>
+    ensures made { OnOk result (made.new ≡ grown site.now.0 site.now.2 made.old (map (finished state.old) (at_end (edges.context_for site.now) site.now.2))) }
+    ensures state { OnOk result (state.new ≡ state.old) }
+{
+    let func = site.func();
+    if !func.gives {
+        return put_ensures(alloc, site, state, made, func.pos);
+    }
+    if func.name.as_bytes() == b"main".as_slice() {
+        let zero = Term::number(alloc, 0)?;
+        return put_promised(alloc, site, state, made, func.pos, &zero);
+    }
+    Ok(())
 }

@@ -76,7 +76,8 @@ fn store(
     state.store(alloc, array, &index, &value)
 }
 
-fn assume(
+/// The condition holds. The only error is want of memory.
+pub(crate) fn assume(
     alloc: Global,
     names: &ProgramNames<'_>,
     state: &mut SymbolicState,
@@ -87,7 +88,8 @@ fn assume(
     state.assume_form(form(alloc, names, cond)?)
 }
 
-fn deny(
+/// The condition doesn't hold. The only error is want of memory.
+pub(crate) fn deny(
     alloc: Global,
     names: &ProgramNames<'_>,
     state: &mut SymbolicState,

@@ -13,7 +13,7 @@ use Rattle.c_lang.specs.declared.program.Func.{Func}
 use Rattle.c_lang.specs.declared.program.Program.{Program}
 use Rattle.loop_invariants.specs.Hints.{Hints}
 use Rattle.loop_invariants.specs.Context.{Context, context_of}
-use Rattle.weakest_preconditions.specs.Changing.{change, setting_at, storing, renewing, returning}
+use Rattle.weakest_preconditions.specs.Changing.{change, setting_at, storing, renewing, returning, entering}
 use Rattle.weakest_preconditions.specs.Annotated.{Annotated, aside, set, set_element, call, call_by, if_else, while_loop, break_loop, return_with, assert_that, input, output, choice}
 use Rattle.weakest_preconditions.specs.Wp.{Condition, implies, goal_of, goals, owed_at, promised, asked, is_function, cells_of}
 use Rattle.symbolic_state.specs.declared.step.Step.{Step}
@@ -114,3 +114,7 @@ context_for f = context_of f.0 f.1
 
 abbrev pub zero : ℤ
 zero = pos 0
+
+-- what stands round all conditions of a function
+abbrev pub entry_steps : Context → Func → List Step
+entry_steps c f = assumed (c.needs f.name) (stepped.Replaces (entering c.globals (map (λ p. p.1) f.params)) ∷ [])
