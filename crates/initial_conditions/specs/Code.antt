@@ -1,3 +1,4 @@
--- The facts of an array in two parts, and what is found of a fact.
+-- Numbers name by name, the facts of an array in two parts, and the arrays of a fact.
+pub mod Numbers
 pub mod Elements
 pub mod Arrays

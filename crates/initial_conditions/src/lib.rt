@@ -6,4 +6,4 @@ mod elements;
 mod initial;
 mod numbers;
 
-pub use initial::Initial;
+pub use initial::initial_condition;

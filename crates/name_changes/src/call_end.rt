@@ -15,8 +15,8 @@ use sqlite_items::Items;
 use std::alloc::{AllocError, Global};
 use terms::{ArrayTerm, Changes, Sym, Term};
 
-/// The pair with which the bound number is itself, for `keeping_bound`. The only error is want of memory.
-pub fn own_bound(alloc: Global) -> Result<(Sym, Term), AllocError>
+// The bound number is itself.
+fn own_bound(alloc: Global) -> Result<(Sym, Term), AllocError>
     ensures { IfOk result (λ made. made ≡ (bound, name bound)) }
 {
     let value = Term::name(alloc, bound(alloc)?)?;

@@ -6,7 +6,7 @@ mod changes;
 mod facts;
 mod names;
 
-pub use call_end::{own_bound, returning};
+pub use call_end::returning;
 pub use changes::{entering, passing, renewing, setting, storing};
 pub use facts::changed_fact;
 pub use names::{bound, current};
