@@ -9,3 +9,4 @@ mod names;
 pub use call_end::returning;
 pub use changes::{entering, passing, renewing, setting, storing};
 pub use facts::changed_fact;
+pub use names::{bound, current};

@@ -7,8 +7,8 @@ use itoa::Buffer;
 use std::alloc::{AllocError, Global};
 use terms::Sym;
 
-/// The name of a base's current value.
-pub(crate) fn current(alloc: Global, base: &Name) -> Result<Sym, AllocError>
+/// The name of a base's current value. The only error is want of memory.
+pub fn current(alloc: Global, base: &Name) -> Result<Sym, AllocError>
     ensures { IfOk result (λ made. made ≡ current base.now) }
 {
     Ok(Sym {
@@ -25,8 +25,8 @@ pub(crate) fn current_result(alloc: Global) -> Result<Sym, AllocError>
     Ok(Sym { base, count: 0 })
 }
 
-/// The number that a fact binds.
-pub(crate) fn bound(alloc: Global) -> Result<Sym, AllocError>
+/// The number that a fact binds. The only error is want of memory.
+pub fn bound(alloc: Global) -> Result<Sym, AllocError>
     ensures { IfOk result (λ made. made ≡ bound) }
 {
     let base = Name::new(alloc, b"$")?;

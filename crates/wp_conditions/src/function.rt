@@ -33,7 +33,7 @@ fn entered(alloc: Global, site: &FunctionContext<'_>) -> Result<SymbolicState, A
 }
 
 #[tactic(auto, using(crate::proofs::FunctionLaws::function_is))]
-fn put_body<'b, 'p: 'b>(
+fn put_body<'b, 'p>(
     alloc: Global,
     site: &FunctionContext<'p>,
     graph: &Graph<'b, 'p>,

@@ -1,10 +1,11 @@
 //! The walk that makes a function's conditions from the front, each when it comes to it.
 
-ghost use Rattle.std.specs.Prelude.{◌≡◌, ◌∷◌, ◌++◌, OnOk, map, length};
+ghost use Rattle.std.specs.Prelude.{◌≡◌, [], ◌∷◌, ◌++◌, IfOk, OnOk, map, length};
 ghost use Rattle.annotated_bodies.specs.Seen.{seen_annotated};
 ghost use Rattle.symbolic_state.specs.Steps.{finished};
 ghost use Rattle.control_flow.specs.Seen.{conditions_in};
 ghost use Rattle.wp_conditions.specs.Code.Edges as edges;
+ghost use Rattle.wp_conditions.specs.Code.Edges.{straight};
 ghost use Rattle.wp_conditions.specs.Code.Growing.{grown};
 ghost use Rattle.wp_conditions.specs.Code.Waiting.{left, Stacked, at_mark, seen_waiting, seen_stack};
 
@@ -104,9 +105,26 @@ fn go<'b, 'p>(
     arrive(alloc, site, graph, state, waiting, made, entry.number)
 }
 
+// The graph's entry, where so many steps stand round it.
+fn start<'b, 'p>(
+    alloc: Global,
+    graph: &Graph<'b, 'p>,
+    mark: usize,
+) -> Result<Vec<Waiting<'b, 'p>>, AllocError>
+    ensures { IfOk result (λ all. seen_stack all.items ≡ record { mark = mark; edge = straight; number = graph.now.entry } ∷ []) }
+{
+    let mut waiting = Vec::new(alloc);
+    waiting.push(Waiting {
+        mark,
+        edge: Edge::Straight,
+        number: graph.entry(),
+    })?;
+    Ok(waiting)
+}
+
 /// Makes the conditions of the function of the graph, behind what stands round them. The only error is want of
 /// memory.
-pub(crate) fn walk<'b, 'p: 'b>(
+pub(crate) fn walk<'b, 'p>(
     alloc: Global,
     site: &FunctionContext<'p>,
     graph: &Graph<'b, 'p>,
@@ -117,12 +135,7 @@ pub(crate) fn walk<'b, 'p: 'b>(
     requires func { graph.now.func.now ≡ site.now.2 }
     ensures { OnOk result (made.new ≡ grown site.now.0 site.now.2 made.old (map (finished state.old) (conditions_in graph.now graph.now.entry))) }
 {
-    let mut waiting = Vec::new(alloc);
-    waiting.push(Waiting {
-        mark: state.mark(),
-        edge: Edge::Straight,
-        number: graph.entry(),
-    })?;
+    let mut waiting = start(alloc, graph, state.mark())?;
     for _ in 0..u64::MAX {
         if made.is_full() {
             return Ok(());
