@@ -113,7 +113,7 @@ fn start<'b, 'p>(
 ) -> Result<Vec<Waiting<'b, 'p>>, AllocError>
     ensures { IfOk result (λ all. seen_stack all.items ≡ record { mark = mark; edge = straight; number = graph.now.entry } ∷ []) }
 {
-    let mut waiting = Vec::new(alloc);
+    let mut waiting: Vec<Waiting<'b, 'p>> = Vec::new(alloc);
     waiting.push(Waiting {
         mark,
         edge: Edge::Straight,
