@@ -12,7 +12,10 @@ use c_lang::Stmt;
 use std::alloc::AllocError;
 
 /// Adds a node, and gives its number. The only error is want of memory.
-pub(crate) fn push<'b, 'p>(nodes: &mut Vec<Node<'b, 'p>>, node: Node<'b, 'p>) -> Result<usize, AllocError>
+pub(crate) fn push<'b, 'p>(
+    nodes: &mut Vec<Node<'b, 'p>>,
+    node: Node<'b, 'p>,
+) -> Result<usize, AllocError>
     ensures added { OnOk result (nodes_of nodes.new.items ≡ seen_node node.entry ∷ nodes_of nodes.old.items) }
     ensures number { IfOk result (λ number. number ≡ length (nodes_of nodes.old.items)) }
 {

@@ -49,6 +49,28 @@ fn put_body<'b, 'p>(
     walk(alloc, site, graph, &mut state, made)
 }
 
+// Adds the conditions at the graph's entry, unless there are too many.
+fn add_graph<'b, 'p>(
+    alloc: Global,
+    context: &'p Context<'p>,
+    func: &'p Func,
+    graph: &Graph<'b, 'p>,
+    made: &mut Made,
+) -> Result<bool, AllocError>
+    requires context { graph.now.context.now ≡ context.now }
+    requires func { graph.now.func.now ≡ func.now }
+    requires conditions { conditions_in graph.now graph.now.entry ≡ wp_all (context_in context.now) func.now.name
+        (annotated_body (context_in context.now) func.now) (at_end (context_in context.now) func.now) (at_end (context_in context.now) func.now) }
+    ensures { IfOk result (λ added. IsAdded context.entry.now func.entry.now made.old made.new added) }
+{
+    if graph.count(graph.entry()) > CONDITION_LIMIT {
+        return Ok(false);
+    }
+    let site = FunctionContext::new(alloc, context, func)?;
+    put_body(alloc, &site, graph, made)?;
+    Ok(true)
+}
+
 /// Adds the conditions of the function and answers true, or answers false where there are too many. The only error
 /// is want of memory.
 pub(crate) fn add_function<'p>(
@@ -61,10 +83,5 @@ pub(crate) fn add_function<'p>(
 {
     let body = annotated_body(alloc, context, func)?;
     let graph = control_flow(alloc, context, func, body.as_slice())?;
-    if graph.count(graph.entry()) > CONDITION_LIMIT {
-        return Ok(false);
-    }
-    let site = FunctionContext::new(alloc, context, func)?;
-    put_body(alloc, &site, &graph, made)?;
-    Ok(true)
+    add_graph(alloc, context, func, &graph, made)
 }

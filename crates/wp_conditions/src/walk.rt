@@ -38,7 +38,15 @@ fn arrive_at_statement<'b, 'p>(
         ≡ at_mark (length state.old) (edges.edges (edges.context_for site.now) (seen_annotated annotated.entry.now) first second) ++ seen_stack waiting.old.items) }
 {
     put_statement(alloc, site, state, made, annotated)?;
-    push_edges(alloc, site.context(), waiting, state.mark(), annotated, first, second)
+    push_edges(
+        alloc,
+        site.context(),
+        waiting,
+        state.mark(),
+        annotated,
+        first,
+        second,
+    )
 }
 
 // Makes the conditions at the node with a number, and adds its edges.
@@ -70,11 +78,13 @@ fn arrive<'b, 'p>(
             };
             put_goals(alloc, site.sorts(), state, made, label, invariants)
         }
-        Some(Node::Does {
-            stmt,
-            first,
-            second,
-        }) => arrive_at_statement(alloc, site, state, waiting, made, stmt, *first, *second),
+        Some(
+            Node::Does {
+                stmt,
+                first,
+                second,
+            },
+        ) => arrive_at_statement(alloc, site, state, waiting, made, stmt, *first, *second),
     }
 }
 

@@ -24,9 +24,9 @@ returns-in-Some-Ends-clause-made c =
     let x : Context = context_for c.args.site.now in
     let ws : List Waiting = seen_stack c.args.waiting.now.items in
     let here : conditions_in c.args.graph.now c.args.number ≡ at_end x c.args.site.now.2
-        = c.in-Some-Ends.ensures.conditions
-        ∙ ap₂ (λ s f. at_node (context_in s) f.name (at_end (context_in s) f) (seen_node c.in-Some-Ends.field-0.now) (conditions_in c.args.graph.now)) c.requires.context c.requires.func
-        ∙ ap (λ m. at_node x c.args.site.now.2.name (at_end x c.args.site.now.2) (seen_node m) (conditions_in c.args.graph.now)) c.in-Some-Ends.field-0-is in
+    = c.in-Some-Ends.ensures.conditions
+    ∙ ap₂ (λ s f. at_node (context_in s) f.name (at_end (context_in s) f) (seen_node c.in-Some-Ends.field-0.now) (conditions_in c.args.graph.now)) c.requires.context c.requires.func
+    ∙ ap (λ m. at_node x c.args.site.now.2.name (at_end x c.args.site.now.2) (seen_node m) (conditions_in c.args.graph.now)) c.in-Some-Ends.field-0-is in
     from_two c.put_end.result (λ made state.
     ap₂ (λ m s. grown c.args.site.now.0 c.args.site.now.2 m (left x (conditions_in c.args.graph.now) s ws)) made state
     ∙ sym (grown_append c.args.site.now.0 c.args.site.now.2 c.args.made.now (map (finished c.args.state.now) (at_end x c.args.site.now.2)) (left x (conditions_in c.args.graph.now) c.args.state.now ws))
@@ -39,11 +39,11 @@ returns-in-Some-Turns-clause-made c =
     let ws : List Waiting = seen_stack c.args.waiting.now.items in
     let kept : List Condition = goals c.in-Some-Turns.pos what.InvariantKept c.in-Some-Turns.invariants in
     let here : conditions_in c.args.graph.now c.args.number ≡ kept
-        = c.in-Some-Turns.ensures.conditions
-        ∙ ap₂ (λ s f. at_node (context_in s) f.name (at_end (context_in s) f) (seen_node c.in-Some-Turns.field-0.now) (conditions_in c.args.graph.now)) c.requires.context c.requires.func
-        ∙ ap (λ m. at_node x c.args.site.now.2.name (at_end x c.args.site.now.2) (seen_node m) (conditions_in c.args.graph.now)) c.in-Some-Turns.field-0-is in
+    = c.in-Some-Turns.ensures.conditions
+    ∙ ap₂ (λ s f. at_node (context_in s) f.name (at_end (context_in s) f) (seen_node c.in-Some-Turns.field-0.now) (conditions_in c.args.graph.now)) c.requires.context c.requires.func
+    ∙ ap (λ m. at_node x c.args.site.now.2.name (at_end x c.args.site.now.2) (seen_node m) (conditions_in c.args.graph.now)) c.in-Some-Turns.field-0-is in
     let whole : OnOk c.put_goals.result (c.put_goals.new.made ≡ grown c.args.site.now.0 c.args.site.now.2 c.args.made.now (map (finished c.args.state.now) kept))
-        = subst (λ s. OnOk c.put_goals.result (c.put_goals.new.made ≡ grown s.0 s.1 c.args.made.now (map (finished c.args.state.now) kept))) c.sorts.ensures c.put_goals.ensures in
+    = subst (λ s. OnOk c.put_goals.result (c.put_goals.new.made ≡ grown s.0 s.1 c.args.made.now (map (finished c.args.state.now) kept))) c.sorts.ensures c.put_goals.ensures in
     on_ok_weaker c.put_goals.result (λ e.
     ap (λ m. grown c.args.site.now.0 c.args.site.now.2 m (left x (conditions_in c.args.graph.now) c.args.state.now ws)) e
     ∙ sym (grown_append c.args.site.now.0 c.args.site.now.2 c.args.made.now (map (finished c.args.state.now) kept) (left x (conditions_in c.args.graph.now) c.args.state.now ws))
@@ -57,10 +57,10 @@ returns-in-Some-Does-clause-made c =
     let t : Annotated = seen_annotated c.in-Some-Does.stmt.now in
     let after : List Waiting = at_mark (length c.args.state.now) (edges x t c.in-Some-Does.first c.in-Some-Does.second) ++ ws in
     let here_is : conditions_in c.args.graph.now c.args.number
-        ≡ step x c.args.site.now.2.name t (conditions_in c.args.graph.now c.in-Some-Does.first) (conditions_in c.args.graph.now c.in-Some-Does.second)
-        = c.in-Some-Does.ensures.conditions
-        ∙ ap₂ (λ s f. at_node (context_in s) f.name (at_end (context_in s) f) (seen_node c.in-Some-Does.field-0.now) (conditions_in c.args.graph.now)) c.requires.context c.requires.func
-        ∙ ap (λ m. at_node x c.args.site.now.2.name (at_end x c.args.site.now.2) (seen_node m) (conditions_in c.args.graph.now)) c.in-Some-Does.field-0-is in
+    ≡ step x c.args.site.now.2.name t (conditions_in c.args.graph.now c.in-Some-Does.first) (conditions_in c.args.graph.now c.in-Some-Does.second)
+    = c.in-Some-Does.ensures.conditions
+    ∙ ap₂ (λ s f. at_node (context_in s) f.name (at_end (context_in s) f) (seen_node c.in-Some-Does.field-0.now) (conditions_in c.args.graph.now)) c.requires.context c.requires.func
+    ∙ ap (λ m. at_node x c.args.site.now.2.name (at_end x c.args.site.now.2) (seen_node m) (conditions_in c.args.graph.now)) c.in-Some-Does.field-0-is in
     from_three c.arrive_at_statement.result (λ made state waiting.
     (λ i. grown c.args.site.now.0 c.args.site.now.2 (made i) (left x (conditions_in c.args.graph.now) (state i) (waiting i)))
     ∙ sym (grown_append c.args.site.now.0 c.args.site.now.2 c.args.made.now (here x c.args.site.now.2.name t c.args.state.now) (left x (conditions_in c.args.graph.now) c.args.state.now after))

@@ -19,13 +19,13 @@ returns-then-is_full c =
 pub go-requires-clause-stacked : goal.go-requires-clause-stacked
 go-requires-clause-stacked c =
     let popped : seen_stack c.loop.waiting.items ≡ seen_waiting c.in-Some.entry ∷ seen_stack c.pop.new.self.items
-        = ap seen_stack c.in-Some.ensures.items ∙ seen_pushed c.pop.new.self.items c.in-Some.entry in
+    = ap seen_stack c.in-Some.ensures.items ∙ seen_pushed c.pop.new.self.items c.in-Some.entry in
     subst (λ ws. Stacked (length c.loop.state) ws) popped c.loop.invariant.stacked
 
 pub loop-preserved : goal.loop-preserved
 loop-preserved c =
     let popped : seen_stack c.loop.waiting.items ≡ seen_waiting c.in-Some.entry ∷ seen_stack c.pop.new.self.items
-        = ap seen_stack c.in-Some.ensures.items ∙ seen_pushed c.pop.new.self.items c.in-Some.entry in
+    = ap seen_stack c.in-Some.ensures.items ∙ seen_pushed c.pop.new.self.items c.in-Some.entry in
     record {
       whole = c.in_ok-go.ensures.made
           ∙ ap (λ ws. grown c.args.site.now.0 c.args.site.now.2 c.loop.made (left (context_for c.args.site.now) (conditions_in c.args.graph.now) c.loop.state ws)) (sym popped)
