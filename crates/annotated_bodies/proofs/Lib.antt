@@ -1,2 +1,3 @@
+pub mod LevelLaws
 pub mod PlaceLaws
 pub mod BodyLaws

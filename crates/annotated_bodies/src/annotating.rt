@@ -5,6 +5,7 @@ ghost use Rattle.c_lang.specs.Trees.{statement_of, statements};
 ghost use Rattle.weakest_preconditions.specs.Annotated.{none};
 ghost use Rattle.loop_invariants.specs.SetNames as set_names;
 ghost use Rattle.weakest_preconditions.specs.Annotating as spec;
+ghost use Rattle.weakest_preconditions.specs.Conditions as conditions;
 ghost use Rattle.annotated_bodies.specs.Places.{seen_place};
 ghost use Rattle.annotated_bodies.specs.Seen.{seen_annotated, annotated_by, seen_body};
 ghost use Rattle.annotated_bodies.specs.Sources.{context_in, names_in};
@@ -12,7 +13,7 @@ ghost use Rattle.annotated_bodies.specs.Sources.{context_in, names_in};
 use crate::place::Place;
 use crate::sets::{add_dest, add_sets_in};
 use crate::{Annotated, Context};
-use c_lang::{Dest, Name, Stmt};
+use c_lang::{Dest, Func, Name, Stmt};
 use loop_invariants::Facts;
 use sqlite_items::Items;
 use std::alloc::{AllocError, Global};
@@ -252,9 +253,9 @@ fn annotated<'c>(
     }
 }
 
-/// The statements with their annotations, from a place on, which goes behind them. The only error is want of memory.
+// The statements with their annotations, from a place on, which goes behind them.
 #[cycle(annotated)]
-pub(crate) fn annotated_all<'c>(
+fn annotated_all<'c>(
     alloc: Global,
     context: &'c Context<'_>,
     func: &Name,
@@ -271,4 +272,16 @@ pub(crate) fn annotated_all<'c>(
         all.push(annotated(alloc, context, func, place, stmt)?)?;
     }
     Ok(Items::from_vec(all))
+}
+
+/// The statements of a function's body with their annotations. The only error is want of memory.
+pub fn annotated_body<'c>(
+    alloc: Global,
+    context: &'c Context<'_>,
+    func: &'c Func,
+) -> Result<Items<Annotated<'c>>, AllocError>
+    ensures { IfOk result (λ body. seen_body body ≡ conditions.annotated_body (context_in context.entry.now) func.entry.now) }
+{
+    let mut place = Place::new(alloc);
+    annotated_all(alloc, context, &func.name, &mut place, func.body.as_slice())
 }

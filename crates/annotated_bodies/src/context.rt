@@ -107,11 +107,7 @@ impl<'p> Context<'p> {
     }
 
     /// Adds the cells that a function may change. The only error is want of memory.
-    pub(crate) fn add_assigns<'c>(
-        &'c self,
-        out: &mut Vec<&'c Name>,
-        func: &Name,
-    ) -> Result<(), AllocError>
+    pub fn add_assigns<'c>(&'c self, out: &mut Vec<&'c Name>, func: &Name) -> Result<(), AllocError>
         ensures { OnOk result (names_in out.new.items ≡ names_in out.old.items ++ (context_in self.entry.now).assigns func.now) }
     {
         match self.hints.contract(func) {
@@ -139,7 +135,7 @@ impl<'p> Context<'p> {
     }
 
     /// Adds the cells that some function reached by a pointer may change. The only error is want of memory.
-    pub(crate) fn add_reached_assigns<'c>(
+    pub fn add_reached_assigns<'c>(
         &'c self,
         alloc: Global,
         out: &mut Vec<&'c Name>,

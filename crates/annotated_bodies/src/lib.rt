@@ -8,4 +8,5 @@ mod place;
 mod sets;
 
 pub use annotated::Annotated;
+pub use annotating::annotated_body;
 pub use context::Context;

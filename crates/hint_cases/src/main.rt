@@ -1,10 +1,16 @@
 //! Cases of hints texts.
 //!
-//! Each line of `stdin` is a case, and the line of `stdout` with the same number is its answer. A case is
-//! `hints` and a text, which is as `case_texts` has it, and is read for the program of `PROGRAM`. An empty
-//! line and one that begins with `#` are printed as they stand.
+//! Each line of `stdin` is a case, and the line of `stdout` with the same number is its answer. A case is a
+//! command and texts as `case_texts` has them, with `@` between:
+//!
+//! - `hints TEXT`: the items of a hints text for the program of `PROGRAM`;
+//! - `read PROGRAM @ HINTS`: the hints that a text says of a merged program;
+//! - `add PROGRAM @ HINTS @ FUNC NUMBER FORM`: whether the form is added to the function's loop, and the hints then.
+//!
+//! An empty line and one that begins with `#` are printed as they stand.
 #![tactic(auto)]
 
+mod reading;
 mod shown;
 
 use anyhow::{Context, Result};
@@ -49,6 +55,8 @@ fn answer(alloc: Global, line: &str) -> Result<String> {
     let (command, rest) = line.split_once(' ').unwrap_or((line, ""));
     match command {
         "hints" => hints(alloc, &text_of(alloc, rest)?),
+        "read" => reading::read(alloc, rest),
+        "add" => reading::add(alloc, rest),
         _ => None.context("no such command"),
     }
 }

@@ -7,12 +7,12 @@ use hint_texts::{Clause, ClauseKind, Head, Item, Quantified};
 use std::alloc::Global;
 use terms::Fact;
 
-fn put(out: &mut Vec<u8>, text: &[u8]) -> Result<()> {
+pub fn put(out: &mut Vec<u8>, text: &[u8]) -> Result<()> {
     out.extend_from_slice(text)?;
     Ok(())
 }
 
-fn put_number(alloc: Global, out: &mut Vec<u8>, number: u32) -> Result<()> {
+pub fn put_number(alloc: Global, out: &mut Vec<u8>, number: u32) -> Result<()> {
     let text = format!(in alloc; "{number}")?;
     put(out, text.as_bytes())
 }
@@ -43,7 +43,7 @@ fn put_head(alloc: Global, out: &mut Vec<u8>, head: &Head) -> Result<()> {
     }
 }
 
-fn put_fact(alloc: Global, out: &mut Vec<u8>, fact: &Fact) -> Result<()> {
+pub fn put_fact(alloc: Global, out: &mut Vec<u8>, fact: &Fact) -> Result<()> {
     match fact {
         Fact::Plain(form) => Ok(put_form(alloc, out, form)?),
         Fact::All { var, lo, hi, body } => {
@@ -75,7 +75,7 @@ fn put_quantified(
     put_fact(alloc, out, &quantified.fact)
 }
 
-fn put_names(out: &mut Vec<u8>, names: &[Name]) -> Result<()> {
+pub fn put_names(out: &mut Vec<u8>, names: &[Name]) -> Result<()> {
     put(out, b"assigns")?;
     for name in names {
         put(out, b" ")?;

@@ -2,26 +2,19 @@
 use Rattle.std.specs.Prelude.{ℕ, ◌==◌, Bool, false, ◌&&◌, if◌then◌else◌, List, [], ◌∷◌, ◌++◌, Option, Some, None}
 use Rattle.std.specs.Str.{bytes_eq}
 use Rattle.c_lang.specs.Names.{Bytes}
-use Rattle.c_lang.specs.Programs.{func_named}
-use Rattle.c_lang.specs.declared.program.Func.{Func}
 use Rattle.c_lang.specs.declared.program.Program.{Program}
 use Rattle.terms.specs.declared.fact.Fact.{Fact}
 use Rattle.loop_invariants.specs.declared.hints.LoopInvariants.{LoopInvariants}
 use Rattle.loop_invariants.specs.Hints.{Hints}
-use Rattle.loop_invariants.specs.Loops.{visible_at}
-use Rattle.loop_invariants.specs.Clauses.{at_loop, may_stand}
+use Rattle.loop_invariants.specs.Clauses.{Place, loop_place, may_stand}
 
-abbrev pub may_stand_at : Program → Func → Option (List Bytes) → Fact → Bool
-may_stand_at p f None fact = false
-may_stand_at p f (Some visible) fact = may_stand p (at_loop f visible) fact
-
-abbrev pub may_stand_in : Program → Option Func → ℕ → Fact → Bool
-may_stand_in p None number fact = false
-may_stand_in p (Some f) number fact = may_stand_at p f (visible_at f number) fact
+abbrev pub may_stand_at : Program → Option Place → Fact → Bool
+may_stand_at p None fact = false
+may_stand_at p (Some at) fact = may_stand p at fact
 
 -- the function has that loop, and the fact may stand there
 abbrev pub may_be_added : Program → Bytes → ℕ → Fact → Bool
-may_be_added p func number fact = may_stand_in p (func_named p.funcs func) number fact
+may_be_added p func number fact = may_stand_at p (loop_place p func number) fact
 
 abbrev pub is_of : Bytes → ℕ → LoopInvariants → Bool
 is_of func number l = (l.number == number) && bytes_eq l.func func
@@ -35,3 +28,7 @@ with_invariant (l ∷ ls) func number fact = if is_of func number l
 
 abbrev pub added : Hints → Bytes → ℕ → Fact → Hints
 added hints func number fact = record hints { loops = with_invariant hints.loops func number fact }
+
+-- the hints behind `Hints::add`, by its answer
+abbrev pub added_if : Bool → Hints → Bytes → ℕ → Fact → Hints
+added_if done hints func number fact = if done then added hints func number fact else hints

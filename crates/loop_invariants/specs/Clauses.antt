@@ -1,9 +1,10 @@
 -- What may stand in a clause of hints.
 use Rattle.std.specs.Prelude.{ℕ, zero, suc, ◌==◌, ℤ, pos, Bool, true, false, not, ◌&&◌, ◌||◌, List, [], ◌∷◌, ◌++◌, length, Option, Some, None, int_le}
+use Rattle.std.specs.Option.{is_some, option_map}
 use Rattle.std.specs.List.{list_any}
 use Rattle.std.specs.Str.{bytes_eq}
 use Rattle.c_lang.specs.Names.{Bytes}
-use Rattle.c_lang.specs.Programs.{global_named}
+use Rattle.c_lang.specs.Programs.{global_named, func_named}
 use Rattle.c_lang.specs.declared.program.Shape.{Shape}
 use Rattle.c_lang.specs.declared.program.Shape.TheVariants as shape
 use Rattle.c_lang.specs.declared.program.GlobalVar.{GlobalVar}
@@ -16,6 +17,7 @@ use Rattle.terms.specs.Symbols.{same_sym}
 use Rattle.terms.specs.Trees.{TermTree, number, name, plus, minus, times, read, ArrayTree, array, stored, FormTree, at_most, equal, denied, both, either}
 use Rattle.loop_invariants.specs.EntryNames.{parameter_text, entry_text, result_base, bound}
 use Rattle.loop_invariants.specs.SetNames.{is_among}
+use Rattle.loop_invariants.specs.Loops.{visible_at}
 
 -- ---- the names
 
@@ -121,5 +123,26 @@ at_promises f = record { locals = []; parameters = length f.params; result = f.g
 abbrev pub at_loop : Func → List Bytes → Place
 at_loop f visible = record { locals = visible; parameters = length f.params; result = false; entry = true }
 
+abbrev pub loop_place_in : Option Func → ℕ → Option Place
+loop_place_in None k = None
+loop_place_in (Some f) k = option_map (at_loop f) (visible_at f k)
+
+-- at the loop of this number, if there is a function of this name that has it
+abbrev pub loop_place : Program → Bytes → ℕ → Option Place
+loop_place p func k = loop_place_in (func_named p.funcs func) k
+
 abbrev pub may_stand : Program → Place → Fact → Bool
 may_stand p at f = may_be_fact (names_at p at) f
+
+-- whether a `forall` may give its number this name in the text: no global has it, and no parameter or local of which
+-- the clause may speak
+abbrev pub may_bind : Program → Place → Bytes → Bool
+may_bind p at x = not (is_some (global_named p.globals x)) && not (is_among x at.locals)
+
+-- a place in a program
+pub record Site : Type 0 where
+  pub program : Program
+  pub place : Place
+
+abbrev pub site : Program → Place → Site
+site p at = record { program = p; place = at }

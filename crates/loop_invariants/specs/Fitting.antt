@@ -6,10 +6,8 @@ use Rattle.c_lang.specs.declared.program.Func.{Func}
 use Rattle.c_lang.specs.declared.program.Program.{Program}
 use Rattle.terms.specs.declared.fact.Fact.{Fact}
 use Rattle.loop_invariants.specs.declared.hints.Contract.{Contract}
-use Rattle.loop_invariants.specs.declared.hints.LoopInvariants.{LoopInvariants}
 use Rattle.loop_invariants.specs.Hints.{Hints}
-use Rattle.loop_invariants.specs.Loops.{visible_at}
-use Rattle.loop_invariants.specs.Clauses.{Place, at_needs, at_promises, at_loop, may_stand}
+use Rattle.loop_invariants.specs.Clauses.{Place, at_needs, at_promises, loop_place, may_stand}
 use Rattle.loop_invariants.specs.Assigned.{lacking}
 use Rattle.loop_invariants.specs.SetNames.{is_among}
 use Rattle.loop_invariants.specs.Context.{names_of}
@@ -30,18 +28,14 @@ abbrev pub IsContract : Program → Option Func → Contract → Type 0
 IsContract p None c = ⊥
 IsContract p (Some f) c = IsContractFor p f c
 
--- where the function has a loop at which these names are visible
-abbrev pub AreInvariantsAt : Program → Func → Option (List Bytes) → List Fact → Type 0
-AreInvariantsAt p f None facts = ⊥
-AreInvariantsAt p f (Some visible) facts = All (MayStand p (at_loop f visible)) facts
-
-abbrev pub AreInvariants : Program → Option Func → LoopInvariants → Type 0
-AreInvariants p None l = ⊥
-AreInvariants p (Some f) l = AreInvariantsAt p f (visible_at f l.number) l.facts
+-- where there is such a place
+abbrev pub AreInvariants : Program → Option Place → List Fact → Type 0
+AreInvariants p None facts = ⊥
+AreInvariants p (Some at) facts = All (MayStand p at) facts
 
 -- Contracts are those of functions and invariants those of loops, each fact may stand where it does, and no
 -- contract lists too few cells.
 pub record Fit (p : Program) (hints : Hints) : Type 0 where
   pub contracts : All (λ entry. IsContract p (func_named p.funcs entry.0) entry.1) hints.contracts
-  pub loops : All (λ l. AreInvariants p (func_named p.funcs l.func) l) hints.loops
+  pub loops : All (λ l. AreInvariants p (loop_place p l.func l.number) l.facts) hints.loops
   pub cells : lacking p hints ≡ None

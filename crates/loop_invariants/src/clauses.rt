@@ -1,20 +1,24 @@
 //! What may stand in a clause.
 
-ghost use Rattle.std.specs.Prelude.{◌≡◌, Bool, IfOk};
+ghost use Rattle.std.specs.Prelude.{◌≡◌, ◌++◌, Bool, IfOk, OnOk};
+ghost use Rattle.std.specs.Option.{option_map};
 ghost use Rattle.std.specs.Str.{bytes_eq};
 ghost use Rattle.c_lang.specs.Programs.{global_named};
 ghost use Rattle.loop_invariants.specs.EntryNames as entry;
 ghost use Rattle.loop_invariants.specs.SetNames.{is_among};
 ghost use Rattle.loop_invariants.specs.Clauses as spec;
-ghost use Rattle.terms.specs.declared.fact.Fact.{Fact};
+ghost use Rattle.loop_invariants.specs.Loops as loops;
+ghost use Rattle.loop_invariants.specs.Code.Seeking.{names_in};
 ghost use Rattle.terms.specs.Symbols.{same_sym};
 ghost use Rattle.terms.specs.Trees.{read, denied};
 ghost use Rattle.loop_invariants.specs.Code.Allowed.{seen_names, seen_place, seen_under, are_terms, are_forms};
 
-use c_lang::{GlobalVar, Name, Shape};
+use crate::loops::visible_at;
+use c_lang::{Func, Name, Shape};
 use itoa::Buffer;
 use name_tables::ProgramNames;
 use std::alloc::{AllocError, Global};
+use std::marker::Model;
 use terms::{ArrayRef, ArrayView, Fact, Form, FormRef, FormView, Sym, TermRef, TermView};
 
 /// The most operators on a path of a formula.
@@ -23,14 +27,41 @@ const OPERATOR_LIMIT: u32 = 64;
 /// The greatest number that a formula may have.
 const LITERAL_LIMIT: i128 = 2_147_483_647;
 
-/// What may stand in a clause: the program's globals, these parameters and locals, the parameters at
-/// entry by these texts, and the result and the globals at entry where they may.
-pub(crate) struct Allowed<'a> {
-    pub(crate) names: &'a ProgramNames<'a>,
-    pub(crate) locals: Vec<Name>,
-    pub(crate) parameters: Vec<Name>,
-    pub(crate) result: bool,
-    pub(crate) at_entry: bool,
+/// What may stand in a clause at some place of a program, which contracts see as the program and the place:
+/// the program's globals, these parameters and locals, the parameters at entry, and the result and the globals
+/// at entry where they may.
+pub struct Allowed<'a> {
+    names: &'a ProgramNames<'a>,
+    place: Place,
+    // the texts of the parameters at entry
+    parameters: Vec<Name>,
+}
+
+// By hand, so that a proof has one step for each that is dropped.
+impl Drop for Allowed<'_> {
+    fn drop(self) {
+        let Allowed {
+            names: _names,
+            place: _place,
+            parameters: _parameters,
+        } = self;
+    }
+}
+
+impl<'a> Model for Allowed<'a> {
+    ghost use Rattle.std.specs.Prelude.{◌≡◌};
+    ghost use Rattle.std.specs.Coded.{codes};
+    ghost use Rattle.c_lang.specs.contracts.program.Program as the_program;
+    ghost use Rattle.loop_invariants.specs.Clauses.{Site, parameter_texts};
+    ghost use Rattle.loop_invariants.specs.Code.Allowed.{seen_place};
+
+    ghost Value = { Site };
+
+    ghost coded = { Prim.hlevel (codes, the_program.the_row.coded) };
+
+    ghost view = { λ a. record { program = a.names.now; place = seen_place a.place } };
+
+    ghost invariant = { λ a. a.parameters.items ≡ parameter_texts a.place.parameters };
 }
 
 // The text of the value at entry of the parameter with this number.
@@ -58,23 +89,10 @@ fn parameter_texts(alloc: Global, count: usize) -> Result<Vec<Name>, AllocError>
 /// has, whether it may speak of the result, and of globals at entry.
 #[derive(Debug, Drop)]
 pub(crate) struct Place {
-    pub(crate) locals: Vec<Name>,
-    pub(crate) parameters: usize,
-    pub(crate) result: bool,
-    pub(crate) at_entry: bool,
-}
-
-// By hand, so that a proof has one step for each that is dropped.
-impl Drop for Allowed<'_> {
-    fn drop(self) {
-        let Allowed {
-            names: _names,
-            locals: _locals,
-            parameters: _parameters,
-            result: _result,
-            at_entry: _at_entry,
-        } = self;
-    }
+    locals: Vec<Name>,
+    parameters: usize,
+    result: bool,
+    at_entry: bool,
 }
 
 fn holds_array(shape: &Shape) -> bool
@@ -139,40 +157,141 @@ fn is_listed(names: &[Name], name: &Name) -> bool
     names.iter().any(|listed| name == listed)
 }
 
+// A copy of each name, behind what stands there.
+fn put_owned(alloc: Global, out: &mut Vec<Name>, names: &[&Name]) -> Result<(), AllocError>
+    ensures { OnOk result (out.new.items ≡ out.old.items ++ names_in names.now) }
+{
+    for name in names {
+        out.push(name.copy(alloc)?)?;
+    }
+    Ok(())
+}
+
+// At a loop of the function where these names are visible.
+fn loop_place(alloc: Global, func: &Func, visible: &[&Name]) -> Result<Place, AllocError>
+    ensures { IfOk result (λ place. seen_place place ≡ spec.at_loop func.now (names_in visible.now)) }
+{
+    let mut locals = Vec::new(alloc);
+    put_owned(alloc, &mut locals, visible)?;
+    Ok(Place {
+        locals,
+        parameters: func.params.len(),
+        result: false,
+        at_entry: true,
+    })
+}
+
 impl<'a> Allowed<'a> {
-    /// What may stand at this place of the program. The only error is want of memory.
-    pub(crate) fn new(
+    // What may stand at this place of the program. The only error is want of memory.
+    fn new(
         alloc: Global,
         names: &'a ProgramNames<'a>,
         place: Place,
     ) -> Result<Allowed<'a>, AllocError>
-        ensures { IfOk result (λ allowed. (fact : Fact) →
-            spec.may_be_fact (seen_names allowed) fact ≡ spec.may_stand names.entry.now (seen_place place) fact) }
+        ensures { IfOk result (λ allowed. allowed ≡ spec.site names.entry.now (seen_place place)) }
     {
         let parameters = parameter_texts(alloc, place.parameters)?;
         Ok(Allowed {
             names,
+            place,
             parameters,
-            result: place.result,
-            at_entry: place.at_entry,
-            locals: place.locals,
         })
+    }
+
+    /// What may stand in what the function asks of its callers. The only error is want of memory.
+    pub fn in_needs(
+        alloc: Global,
+        names: &'a ProgramNames<'a>,
+        func: &Func,
+    ) -> Result<Allowed<'a>, AllocError>
+        ensures { IfOk result (λ allowed. allowed ≡ spec.site names.entry.now (spec.at_needs func.now)) }
+    {
+        let place = Place {
+            locals: Vec::new(alloc),
+            parameters: func.params.len(),
+            result: false,
+            at_entry: false,
+        };
+        Allowed::new(alloc, names, place)
+    }
+
+    /// What may stand in what the function promises its callers. The only error is want of memory.
+    pub fn in_promises(
+        alloc: Global,
+        names: &'a ProgramNames<'a>,
+        func: &Func,
+    ) -> Result<Allowed<'a>, AllocError>
+        ensures { IfOk result (λ allowed. allowed ≡ spec.site names.entry.now (spec.at_promises func.now)) }
+    {
+        let place = Place {
+            locals: Vec::new(alloc),
+            parameters: func.params.len(),
+            result: func.gives,
+            at_entry: true,
+        };
+        Allowed::new(alloc, names, place)
+    }
+
+    // The same, where these names are visible.
+    fn among(
+        alloc: Global,
+        names: &'a ProgramNames<'a>,
+        func: &Func,
+        visible: &[&Name],
+    ) -> Result<Allowed<'a>, AllocError>
+        ensures { IfOk result (λ allowed. allowed ≡ spec.site names.entry.now (spec.at_loop func.now (names_in visible.now))) }
+    {
+        let place = loop_place(alloc, func, visible)?;
+        Allowed::new(alloc, names, place)
+    }
+
+    // What may stand at the function's loop of this number, if it has it. The only error is want of memory.
+    fn in_loop_of(
+        alloc: Global,
+        names: &'a ProgramNames<'a>,
+        func: &Func,
+        number: u32,
+    ) -> Result<Option<Allowed<'a>>, AllocError>
+        ensures { IfOk result (λ allowed. allowed
+            ≡ option_map (λ visible. spec.site names.entry.now (spec.at_loop func.now visible)) (loops.visible_at func.now number)) }
+    {
+        match visible_at(alloc, func, number)? {
+            None => Ok(None),
+            Some(visible) => Ok(Some(Allowed::among(alloc, names, func, &visible)?)),
+        }
+    }
+
+    /// What may stand at the loop of this number, counted from 1, of the function with this name, if there
+    /// is such a loop. The only error is want of memory.
+    pub fn in_loop(
+        alloc: Global,
+        names: &'a ProgramNames<'a>,
+        func: &Name,
+        number: u32,
+    ) -> Result<Option<Allowed<'a>>, AllocError>
+        ensures { IfOk result (λ allowed. allowed
+            ≡ option_map (spec.site names.entry.now) (spec.loop_place names.entry.now func.now number)) }
+    {
+        match names.func(func) {
+            None => Ok(None),
+            Some(func) => Allowed::in_loop_of(alloc, names, func, number),
+        }
     }
 
     fn may_be_number(&self, name: &Name) -> bool
         ensures { result ≡ (seen_names self.now).number name.now }
     {
         is_scalar(self.names, name)
-            || (is_listed(&self.locals, name)
+            || (is_listed(&self.place.locals, name)
                 || (is_listed(&self.parameters, name)
-                    || ((self.result && name.as_bytes() == b"$r".as_slice())
-                        || (self.at_entry && is_entry_scalar(self.names, name)))))
+                    || ((self.place.result && name.as_bytes() == b"$r".as_slice())
+                        || (self.place.at_entry && is_entry_scalar(self.names, name)))))
     }
 
     fn may_be_array(&self, name: &Name) -> bool
         ensures { result ≡ (seen_names self.now).array name.now }
     {
-        is_array(self.names, name) || (self.at_entry && is_entry_array(self.names, name))
+        is_array(self.names, name) || (self.place.at_entry && is_entry_array(self.names, name))
     }
 
     // A name that stands for a number, outside a quantifier or in its body.
@@ -271,9 +390,17 @@ impl<'a> Allowed<'a> {
         }
     }
 
+    /// Whether a `forall` may give its number this name there: no global has it, and no parameter or local of
+    /// which the clause may speak. It takes no memory.
+    pub fn may_bind(&self, name: &Name) -> bool
+        ensures { result ≡ spec.may_bind self.now.program self.now.place name.now }
+    {
+        self.names.global(name).is_none() && !is_listed(&self.place.locals, name)
+    }
+
     /// Whether the fact may stand there. It takes no memory.
-    pub(crate) fn fact(&self, fact: &Fact) -> bool
-        ensures { result ≡ spec.may_be_fact (seen_names self.now) fact.now }
+    pub fn fact(&self, fact: &Fact) -> bool
+        ensures { result ≡ spec.may_stand self.now.program self.now.place fact.now }
     {
         match fact {
             Fact::Plain(form) => self.form(false, OPERATOR_LIMIT, &form.as_ref()),

@@ -71,7 +71,7 @@ impl Contract {
 }
 
 impl LoopInvariants {
-    fn copy(&self, alloc: Global) -> Result<LoopInvariants, AllocError>
+    pub(crate) fn copy(&self, alloc: Global) -> Result<LoopInvariants, AllocError>
         ensures { IfOk result (λ made. made ≡ self.now) }
     {
         let func = self.func.copy(alloc)?;

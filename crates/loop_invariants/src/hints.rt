@@ -1,6 +1,6 @@
 ghost use Rattle.std.specs.Prelude.{◌≡◌, [], unwrap_or};
 ghost use Rattle.std.specs.Option.{option_copied};
-ghost use Rattle.loop_invariants.specs.Hints.{contract_of, invariants_of};
+ghost use Rattle.loop_invariants.specs.Hints.{HintsBind, contract_of, invariants_of};
 
 use c_lang::Name;
 use sqlite_items::Items;
@@ -82,6 +82,15 @@ impl Model for Hints {
 }
 
 impl Hints {
+    /// Hints with these contracts and invariants, in which each fact binds no number but the one of the base `$`.
+    /// It takes no memory.
+    pub fn new(contracts: Items<(Name, Contract)>, loops: Items<LoopInvariants>) -> Hints
+        requires { HintsBind (record { contracts = contracts; loops = loops }) }
+        ensures { (result.contracts ≡ contracts) × (result.loops ≡ loops) }
+    {
+        Hints { contracts, loops }
+    }
+
     /// The contract of a function, if it has one. It takes no memory.
     pub fn contract(&self, func: &Name) -> Option<&Contract>
         ensures { option_copied result ≡ contract_of self.now func.now }

@@ -2,11 +2,13 @@
 #![tactic(auto)]
 
 mod adding;
+mod assigned;
 mod clauses;
 mod copy;
 mod facts;
 mod hints;
 mod loops;
 
+pub use clauses::Allowed;
 pub use facts::Facts;
-pub use hints::{Contract, Hints};
+pub use hints::{Contract, Hints, LoopInvariants};

@@ -1,9 +1,11 @@
 -- A finished condition is the facts that are given and its own ones, each with what its names stand for.
-use Rattle.std.proofs.Common.{◌≡◌, List, [], ◌∷◌, ◌++◌, map, length, refl, sym, ap, ◌∙◌, arith}
+use Rattle.std.proofs.Common.{◌≡◌, ℕ, ◌+◌, ◌<◌, ◌≤◌, List, [], ◌∷◌, ◌++◌, map, length, refl, sym, ap, ◌∙◌, subst, arith}
 use Rattle.terms.specs.declared.fact.Fact.{Fact}
 use Rattle.terms.specs.declared.fact.Fact.TheVariants as fact
 use Rattle.terms.specs.declared.sequent.Label.{Label}
+use Rattle.terms.specs.declared.sequent.Sequent.{Sequent}
 use Rattle.terms.specs.Trees.{FormTree}
+use Rattle.terms.specs.Sizes.{fact_size, facts_size, sequent_size}
 use Rattle.terms.specs.Replacing.{replaced_form, replaced_fact}
 use Rattle.loop_invariants.specs.Binding.{BindsBound}
 use Rattle.symbolic_state.specs.declared.step.Step.{Step}
@@ -35,3 +37,24 @@ is_finished steps hs goal label facts made gives binds e f =
       label = label;
     })
     ∙ ap without_sorts (sym (finished_is steps (owed hs goal label) gives (forms_bind hs) binds))
+
+-- ---- where there is no room
+
+module _ (steps : List Step) (hs : List FormTree) (goal : Fact) (label : Label) (gives : GivesBound steps) (binds : BindsBound goal) where
+  abbrev facts : List Fact
+  facts = given_of steps ++ finished_forms (change_at steps (length steps)) hs
+
+  abbrev made : Fact
+  made = replaced_fact (change_at steps (length steps)) goal
+
+  abbrev pub whole : Sequent
+  whole = without_sorts (finished steps (owed hs goal label))
+
+  by_parts : (room : ℕ) → room < facts_size facts + fact_size made → room < sequent_size whole
+  by_parts room past = subst (λ s. room < sequent_size s) (is_finished steps hs goal label facts made gives binds refl refl) past
+
+  pub facts_past : (room : ℕ) → room < facts_size facts → room < sequent_size whole
+  facts_past room past = by_parts room (omega (arith, past))
+
+  pub goal_past : (room left : ℕ) → room ≤ left + facts_size facts → left < fact_size made → room < sequent_size whole
+  goal_past room left taken past = by_parts room (omega (arith, taken, past))

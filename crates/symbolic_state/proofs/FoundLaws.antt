@@ -1,11 +1,13 @@
 -- What a name stands for at a step, by the state's tables.
-use Rattle.std.proofs.Common.{◌≡◌, ℕ, Bool, true, false, List, reverse, slice_get, unwrap_or, Option, Some, None, Bor, refl, sym, ap, ◌∙◌, subst}
+use Rattle.std.proofs.Common.{◌≡◌, ℕ, ◌≤◌, Bool, true, false, List, length, reverse, slice_get, unwrap_or, Option, Some, None, Bor, refl, sym, ap, ◌∙◌, subst}
+use Rattle.std.proofs.lemmas.List.{length-reverse}
 use Rattle.c_lang.specs.Names.{Bytes}
 use Rattle.terms.specs.declared.sym.Sym.{Sym}
 use Rattle.terms.specs.declared.node.Node.{Node}
 use Rattle.terms.specs.Symbols.{same_sym}
 use Rattle.terms.specs.Code.SymbolLaws.{same_sym-equal, same_sym-Decides}
 use Rattle.terms.specs.Trees.{TermTree, name, ArrayTree, array}
+use Rattle.terms.specs.Replacing.{replaced_term}
 use Rattle.terms.specs.Nodes.{term_nodes, array_nodes}
 use Rattle.expression_conditions.specs.Meanings.{current}
 use Rattle.loop_invariants.specs.EntryNames.{bound}
@@ -13,10 +15,11 @@ use Rattle.symbolic_state.specs.declared.step.Step.{Step}
 use Rattle.symbolic_state.specs.declared.bindings.Binding.{Binding}
 use Rattle.symbolic_state.specs.Steps.{outermost}
 use Rattle.symbolic_state.specs.Code.Bindings.{latest}
+use Rattle.symbolic_state.specs.Code.Joined.{change_of}
 use Rattle.symbolic_state.specs.Code.Values.{Kind, pair_of, Source, HasValues, IsFound, IsKind, as_numbers, as_arrays, HasTables}
 use Rattle.symbolic_state.specs.Code.Writing.{change_at, NumberStands, ArrayStands}
 use Rattle.symbolic_state.proofs.FinishedLaws.{joined_keeps}
-use Rattle.symbolic_state.proofs.ValueLaws.{latest_found}
+use Rattle.symbolic_state.proofs.ValueLaws.{latest_found, outer_more}
 use Rattle.symbolic_state.proofs.KindLaws.{numbers_are, arrays_are}
 use Rattle.symbolic_state.proofs.NameLaws.{number_itself, array_itself, outer_current, by_number}
 
@@ -77,6 +80,18 @@ module _ (made : List Step) (n a : Bytes → List Binding) (has : HasTables (rev
         (value_is as_numbers numbers_are made t x.base (n x.base) (has.numbers x.base (not_bound x zero_count free)) b own e there
         ∙ ap (λ m. as_numbers.put (change_at (reverse made) m) own) (sym source));
   }
+
+  -- a term that is this name has its value where the name's latest one stands
+  pub number_shared : x.count ≡ 0 → same_sym x bound ≡ false → length made ≤ t → (b : Binding) → latest t (n x.base) ≡ Some b → (term : TermTree) → term ≡ name x
+      → Source as_numbers (reverse made) (record { step = t; source = b.source; pair = b.pair }) (replaced_term (change_of (reverse made)) term)
+  number_shared zero_count free all b e term is =
+      let found : Source as_numbers (reverse made) b ((change_at (reverse made) t).number (current x.base)) = subst (IsFound as_numbers (reverse made) x.base t) e
+      (latest_found as_numbers numbers_are (reverse made) x.base (n x.base) t (has.numbers x.base (not_bound x zero_count free))) in
+      let whole : replaced_term (change_of (reverse made)) term ≡ (change_at (reverse made) t).number (current x.base) =
+      ap (replaced_term (change_of (reverse made))) is
+      ∙ sym (ap (λ l. (change_of l).number x) (outer_more t (reverse made) (subst (λ k. k ≤ t) (sym (length-reverse made)) all)))
+      ∙ sym (ap ((change_at (reverse made) t).number) (current_is x zero_count)) in
+      record { earlier = found.earlier; own = found.own; found = found.found; is = whole ∙ found.is }
 
   pub array_counted : (x.count ≡ 0 → ⊥) → (change_at (reverse made) t).array x ≡ array x
   array_counted counted = array_itself (outermost t (reverse made)) x counted (outer_current t (reverse made) has.names)

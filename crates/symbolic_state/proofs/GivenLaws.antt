@@ -1,5 +1,5 @@
 -- The facts that the steps give, one step after the other.
-use Rattle.std.proofs.Common.{◌≡◌, ℕ, zero, suc, ◌+◌, ◌-◌, ◌<◌, ◌≤◌, List, [], ◌∷◌, ◌++◌, length, take, reverse, drop, slice_index_or, refl, sym, ap, ◌∙◌, subst, arith}
+use Rattle.std.proofs.Common.{◌≡◌, ℕ, zero, suc, ◌+◌, ◌-◌, ◌<◌, List, [], ◌∷◌, length, take, reverse, drop, slice_index_or, sym, ap, ◌∙◌, subst}
 use Rattle.std.proofs.lemmas.List.{reverse-append, take_more}
 use Rattle.terms.specs.declared.sym.Sym.{Sym}
 use Rattle.terms.specs.declared.fact.Fact.{Fact}
@@ -12,10 +12,9 @@ use Rattle.loop_invariants.specs.EntryNames.{bound}
 use Rattle.symbolic_state.specs.declared.step.Step.{Step}
 use Rattle.symbolic_state.specs.Steps.{outermost}
 use Rattle.symbolic_state.specs.declared.step.Step.TheVariants as step
-use Rattle.symbolic_state.specs.Code.Joined.{given_of, GivesBound}
+use Rattle.symbolic_state.specs.Code.Joined.{given_first, GivesBound}
 use Rattle.symbolic_state.specs.Code.Writing.{change_at}
 use Rattle.symbolic_state.proofs.StepLaws.{first_outermost}
-use Rattle.symbolic_state.proofs.ValueLaws.{outer_more}
 use Rattle.symbolic_state.proofs.FinishedLaws.{joined_keeps, replaced_all}
 
 -- a fact over the bound number, from its parts
@@ -49,27 +48,9 @@ module _ (made : List Step) (n : ℕ) (d : Step) (within : n < length made) wher
   pub gives_at : (f : Fact) → GivesBound (reverse made) → slice_index_or made n d ≡ step.Assumes f → BindsBound f
   gives_at f gives is = (subst GivesBound (next_is (step.Assumes f) is) (gives_dropped (length (reverse made) - (n + 1)) (reverse made) gives)).0
 
-  -- a fact more is given
-  pub given_more : (f : Fact) (facts new : List Fact) → slice_index_or made n d ≡ step.Assumes f → facts ≡ given_of (outermost n (reverse made))
-      → new ≡ facts ++ (replaced_fact (change_at (reverse made) n) f ∷ []) → new ≡ given_of (outermost (n + 1) (reverse made))
-  given_more f facts new is before more = more ∙ ap (λ fs. fs ++ (replaced_fact (change_at (reverse made) n) f ∷ [])) before
-      ∙ sym (ap given_of (next_is (step.Assumes f) is))
+  -- the fact of the step, or none
+  pub gives_fact : (f : Fact) → slice_index_or made n d ≡ step.Assumes f → replaced_fact (change_at (reverse made) n) f ∷ [] ≡ given_first (outermost (n + 1) (reverse made))
+  gives_fact f is = sym (ap given_first (next_is (step.Assumes f) is))
 
-  -- nothing more is given
-  pub given_same : (c : Changes) (facts : List Fact) → slice_index_or made n d ≡ step.Replaces c → facts ≡ given_of (outermost n (reverse made))
-      → facts ≡ given_of (outermost (n + 1) (reverse made))
-  given_same c facts is before = before ∙ sym (ap given_of (next_is (step.Replaces c) is))
-
--- ---- the first and the last
-
-dropped_all : (steps : List Step) → drop (length steps) steps ≡ []
-dropped_all [] = refl
-dropped_all (s ∷ steps) = dropped_all steps
-
-pub given_first : (steps : List Step) → [] ≡ given_of (outermost 0 steps)
-given_first steps =
-    let whole : length steps - 0 ≡ length steps = omega arith in
-    sym (ap given_of (ap (λ k. drop k steps) whole ∙ dropped_all steps))
-
-pub given_last : (n : ℕ) (steps : List Step) (facts : List Fact) → length steps ≤ n → facts ≡ given_of (outermost n steps) → facts ≡ given_of steps
-given_last n steps facts past is = is ∙ ap given_of (outer_more n steps past)
+  pub gives_none : (c : Changes) → slice_index_or made n d ≡ step.Replaces c → [] ≡ given_first (outermost (n + 1) (reverse made))
+  gives_none c is = sym (ap given_first (next_is (step.Replaces c) is))

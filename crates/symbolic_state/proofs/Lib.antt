@@ -14,3 +14,5 @@ pub mod NameLaws
 pub mod AscentLaws
 pub mod FoundLaws
 pub mod GivenLaws
+pub mod SetLaws
+pub mod RoomLaws

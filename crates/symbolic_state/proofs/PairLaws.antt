@@ -11,7 +11,7 @@ use Rattle.symbolic_state.proofs.BindingLaws.{ends_at-last}
 use Rattle.std.proofs.lemmas.Bool.{eq-eqb}
 
 -- the test of a pair whose name is a current value
-same_base : (x : Bytes) (p : Sym) → p.count ≡ 0 → same_sym p (current x) ≡ bytes_eq p.base x
+pub same_base : (x : Bytes) (p : Sym) → p.count ≡ 0 → same_sym p (current x) ≡ bytes_eq p.base x
 same_base x p zero_count = ap (λ c. bytes_eq p.base x && nat_eq c 0) zero_count ∙ by (bytes_eq p.base x)
   where
     by : (b : Bool) → (b && true) ≡ b

@@ -71,7 +71,7 @@ module _ {T : Type 0} (K : Kind T) (s : Step) (steps : List Step) (x : Bytes) (p
 number_value : (x : Bytes) (s : Step) → same_sym bound (current x) ≡ false → as_numbers.value x s ≡ option_map (λ p. p.1) (first x (numbers_of s))
 number_value x s free = ap (λ b. if b then None else option_map (λ p. p.1) (first x (numbers_of s))) free
 
-number_put : (s : Step) (steps : List Step) (x : Bytes) (q : Sym × TermTree) → same_sym bound (current x) ≡ false → first x (numbers_of s) ≡ Some q
+pub number_put : (s : Step) (steps : List Step) (x : Bytes) (q : Sym × TermTree) → same_sym bound (current x) ≡ false → first x (numbers_of s) ≡ Some q
     → as_numbers.at (change_of (s ∷ steps)) x ≡ replaced_term (change_of steps) q.1
 number_put (step.Replaces c) steps x q free e =
     ap (λ b. replaced_term (change_of steps) (if b then name (current x) else unwrap_or (option_map (λ p. p.1) (first x c.numbers)) (name (current x)))) free

@@ -37,7 +37,7 @@ latest-last t (c ∷ bs) b = ap (λ o. if nat_lt c.step t then later o c else o)
 
 -- ---- one step more
 
-source_more : {T : Type 0} (K : Kind T) (s : Step) (steps : List Step) (b : Binding) (w : T) → Source K steps b w → Source K (s ∷ steps) b w
+pub source_more : {T : Type 0} (K : Kind T) (s : Step) (steps : List Step) (b : Binding) (w : T) → Source K steps b w → Source K (s ∷ steps) b w
 source_more K s steps b w h = record {
   earlier = omega (arith, h.earlier);
   own = h.own;

@@ -3,7 +3,7 @@
 #![tactic(auto)]
 
 mod bindings;
-mod changes;
+mod gathered;
 pub mod laws;
 mod pairs;
 mod state;

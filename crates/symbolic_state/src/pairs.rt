@@ -1,16 +1,18 @@
-ghost use Rattle.std.specs.Prelude.{◌≡◌, [], ◌∷◌, ◌++◌, length, slice_get, OnOk};
+ghost use Rattle.std.specs.Prelude.{◌≡◌, false, bytes_eq, if◌then◌else◌, [], ◌∷◌, ◌++◌, length, slice_get, IfSome, OnOk};
 ghost use Rattle.c_lang.specs.Names.{Bytes};
-ghost use Rattle.symbolic_state.specs.Code.Bindings.{values_of};
+ghost use Rattle.symbolic_state.specs.Code.Bindings.{values_of, bound};
 ghost use Rattle.symbolic_state.specs.Code.Values.{bound_by, unbound_by, numbers_of, arrays_of, pair_of, as_numbers, as_arrays};
 ghost use Rattle.std.specs.Option.{option_copied};
 ghost use Rattle.terms.specs.Symbols.{same_sym};
+ghost use Rattle.terms.specs.Trees.{name};
 ghost use Rattle.loop_invariants.specs.EntryNames as entry;
 ghost use Rattle.symbolic_state.specs.declared.step.Step.TheVariants as step;
 
 use crate::Step;
 use crate::bindings::{Binding, Bindings};
+use c_lang::Name;
 use std::alloc::{AllocError, Global};
-use terms::{ArrayTerm, Changes, Sym, Term};
+use terms::{ArrayTerm, Changes, Sym, Term, TermView};
 
 // Each number of a step's pairs gets its value.
 pub(crate) fn bind_numbers(
@@ -118,6 +120,40 @@ pub(crate) fn is_bound(symbol: &Sym) -> bool
     ensures { result ≡ same_sym symbol.now entry.bound }
 {
     symbol.count == 0 && symbol.base.as_bytes() == b"$".as_slice()
+}
+
+// The current value that the term is, if it is one, and isn't the name that a fact binds.
+pub(crate) fn current_value(term: &Term) -> Option<&Sym>
+    ensures { IfSome result (λ x. (term.now ≡ name x.now) × ((x.now.count ≡ 0) × (same_sym x.now entry.bound ≡ false))) }
+{
+    let TermView::Of(symbol) = term.view() else {
+        return None;
+    };
+    if symbol.count != 0 {
+        return None;
+    }
+    if is_bound(symbol) {
+        return None;
+    }
+    Some(symbol)
+}
+
+// A step more, in which one name's current value is replaced, and this binding is that of its value.
+pub(crate) fn add_value(
+    alloc: Global,
+    steps: &mut Vec<Step>,
+    numbers: &mut Bindings,
+    name: &Name,
+    binding: Binding,
+    changes: Changes,
+) -> Result<(), AllocError>
+    ensures steps { OnOk result (steps.new.items ≡ steps.old.items ++ (step.Replaces changes ∷ [])) }
+    ensures numbers { OnOk result ((x : Bytes) → values_of numbers.new x
+        ≡ (if bytes_eq name.now x then bound (values_of numbers.old x) binding else values_of numbers.old x)) }
+{
+    numbers.bind(alloc, name, binding)?;
+    steps.push(Step::Replaces(changes))?;
+    Ok(())
 }
 
 // The number that a pair of a step gives.

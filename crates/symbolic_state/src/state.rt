@@ -1,21 +1,24 @@
 ghost use Rattle.std.specs.Prelude.{◌≡◌, ◌<◌, ◌+◌, ◌++◌, List, [], ◌∷◌, map, length, drop, All, IfOk, OnOk};
 ghost use Rattle.terms.specs.declared.fact.Fact.TheVariants.{Plain};
-ghost use Rattle.terms.specs.Replacing.{replaced_fact};
-ghost use Rattle.loop_invariants.specs.Binding.{BindsBound};
+ghost use Rattle.terms.specs.Replacing.{change_in, replaced_fact};
+ghost use Rattle.terms.specs.Sizes.{sequent_size};
+ghost use Rattle.loop_invariants.specs.Binding.{BindsBound, KeepsBound};
 ghost use Rattle.weakest_preconditions.specs.Changing.{change, setting, storing, renewing, passing, returning, entering};
 ghost use Rattle.loop_invariants.specs.EntryNames.{result_base};
 ghost use Rattle.symbolic_state.specs.declared.step.Step.TheVariants as step;
-ghost use Rattle.symbolic_state.specs.Code.Values.{IsCurrent};
-ghost use Rattle.symbolic_state.specs.Code.Joined.{given_of, GivesBound};
+ghost use Rattle.symbolic_state.specs.Code.Values.{IsCurrent, IsBindingOf};
+ghost use Rattle.symbolic_state.specs.Code.Joined.{given_of, given_first, GivesBound};
+ghost use Rattle.symbolic_state.specs.Code.Room.{UpTo, IsPut};
 ghost use Rattle.symbolic_state.specs.Code.Writing.{NumberAt, ArrayAt, change_at, finished_forms};
 ghost use Rattle.symbolic_state.specs.Steps.{finished, assumed, outermost, owed, without_sorts, IsMadeWithin};
 
 use crate::Step;
-use crate::bindings::Bindings;
-use crate::changes::{current, entering, one_array, one_number, passing, renewing, stored};
-use crate::pairs::{add_changes, array_at, forget, is_bound, number_at};
-use crate::writing::{finished_fact, put_forms};
+use crate::bindings::{Binding, Bindings};
+use crate::gathered::Gathered;
+use crate::pairs::{add_changes, add_value, array_at, current_value, forget, is_bound, number_at};
+use crate::writing::{finished_fact, put_fact, put_forms};
 use c_lang::{Func, Name, Program};
+use name_changes::{changed_fact, entering, passing, renewing, returning, setting, storing};
 use name_tables::ProgramNames;
 use sqlite_items::Items;
 use std::alloc::{AllocError, Global};
@@ -102,12 +105,52 @@ impl SymbolicState {
         Ok(())
     }
 
+    // Where the value stands that a name gets next. Where it is another name that has got a value, it is the place of
+    // that value, so that nothing goes from name to name to find it.
+    fn next_binding(&self, value: &Term) -> Binding
+        ensures { IsBindingOf self.now value.now result }
+    {
+        let step = self.steps.len();
+        let own = Binding {
+            step,
+            source: step,
+            pair: 0,
+        };
+        let Some(symbol) = current_value(value) else {
+            return own;
+        };
+        match self.numbers.latest(&symbol.base, step) {
+            Some(found) => Binding {
+                step,
+                source: found.source,
+                pair: found.pair,
+            },
+            None => own,
+        }
+    }
+
     /// From here on the name's current value is the given one. The only error is want of memory.
     pub fn set(&mut self, alloc: Global, name: &Name, value: &Term) -> Result<(), AllocError>
         ensures { OnOk result (self.new ≡ step.Replaces (setting name.now value.now) ∷ self.old) }
     {
-        let name = current(alloc, name)?;
-        self.replace(alloc, one_number(alloc, name, value)?)
+        let binding = self.next_binding(value);
+        let changes = setting(alloc, name, value)?;
+        match add_value(
+            alloc,
+            &mut self.steps,
+            &mut self.numbers,
+            name,
+            binding,
+            changes,
+        ) {
+            Ok(()) => Ok(()),
+            Err(_) => {
+                self.steps.clear();
+                self.numbers = Bindings::new(alloc);
+                self.arrays = Bindings::new(alloc);
+                Err(AllocError)
+            }
+        }
     }
 
     /// From here on the result of a function has this value. The only error is want of memory.
@@ -115,17 +158,7 @@ impl SymbolicState {
         ensures { OnOk result (self.new ≡ step.Replaces (setting result_base value.now) ∷ self.old) }
     {
         let name = Name::new(alloc, b"$r")?;
-        self.replace(
-            alloc,
-            one_number(
-                alloc,
-                Sym {
-                    base: name,
-                    count: 0,
-                },
-                value,
-            )?,
-        )
+        self.set(alloc, &name, value)
     }
 
     /// From here on the current array has the value at the index. The only error is want of memory.
@@ -138,8 +171,7 @@ impl SymbolicState {
     ) -> Result<(), AllocError>
         ensures { OnOk result (self.new ≡ step.Replaces (storing array.now index.now value.now) ∷ self.old) }
     {
-        let stored = stored(alloc, array, index, value)?;
-        self.replace(alloc, one_array(alloc, current(alloc, array)?, stored)?)
+        self.replace(alloc, storing(alloc, array, index, value)?)
     }
 
     /// From here on each of these names stands for the current value of its base. The only error is want of memory.
@@ -191,6 +223,23 @@ impl SymbolicState {
         self.given(Fact::Plain(form))
     }
 
+    // The facts are given, one after the other, in which names are replaced.
+    fn assume_changed(
+        &mut self,
+        alloc: Global,
+        facts: &[Fact],
+        by: &Changes,
+    ) -> Result<(), AllocError>
+        requires facts { All BindsBound facts.now }
+        requires by { KeepsBound (change_in by.now) }
+        ensures { OnOk result (self.new ≡ assumed (map (replaced_fact (change_in by.now)) facts.now) self.old) }
+    {
+        for fact in facts {
+            self.given(changed_fact(alloc, fact, by)?)?;
+        }
+        Ok(())
+    }
+
     /// A call has come to its end: what its function promises is given, one fact after the other, where its
     /// parameters at entry had these values, and its result and its cells have fresh names. The names of results and
     /// cells change by `renew`. The only error is want of memory.
@@ -208,7 +257,11 @@ impl SymbolicState {
             (map (replaced_fact (change (returning (map (λ g. g.name) program.now.globals) args.now outcome.now cells.now))) promises.now)
             self.old) }
     {
-        Err(AllocError)
+        if promises.is_empty() {
+            return Ok(());
+        }
+        let by = returning(alloc, program.program(), args, outcome, cells)?;
+        self.assume_changed(alloc, promises, &by)
     }
 
     /// How many steps there are. It takes no memory.
@@ -244,35 +297,49 @@ impl SymbolicState {
         let _steps = self.steps.as_slice();
     }
 
-    // What is given, and these forms, with what their names stand for.
-    fn finished_hyps(&self, alloc: Global, hyps: &[Form]) -> Result<Items<Fact>, AllocError>
-        ensures { IfOk result (λ made. made ≡ given_of self.now ++ finished_forms (change_at self.now (length self.now)) hyps.now) }
+    // Adds what is given, and these forms, with what their names stand for, and answers whether there was room.
+    fn put_hyps(
+        &self,
+        alloc: Global,
+        gathered: &mut Gathered,
+        hyps: &[Form],
+    ) -> Result<bool, AllocError>
+        ensures { IfOk result (λ done. IsPut gathered.old gathered.new
+            (given_of self.now ++ finished_forms (change_at self.now (length self.now)) hyps.now) done) }
     {
-        let mut facts = self.given_facts(alloc)?;
-        put_forms(self, alloc, &mut facts, hyps, self.mark())?;
-        Ok(Items::from_vec(facts))
+        if !self.put_given(alloc, gathered)? {
+            return Ok(false);
+        }
+        put_forms(self, alloc, gathered, hyps, self.mark())
     }
 
-    // The condition with all that stands round it.
-    #[tactic(auto, using(crate::proofs::FinishLaws::is_finished))]
+    // The condition with all that stands round it, or nothing where it is larger than the room.
     fn whole(
         &self,
         alloc: Global,
         hyps: &[Form],
         goal: &Fact,
         label: Label,
-    ) -> Result<Sequent, AllocError>
+        room: u64,
+    ) -> Result<Option<Sequent>, AllocError>
         requires { BindsBound goal.now }
-        ensures { IfOk result (λ made. made ≡ without_sorts (finished self.now (owed hyps.now goal.now label))) }
+        ensures { IfOk result (λ made. UpTo room (sequent_size (without_sorts (finished self.now (owed hyps.now goal.now label))))
+            (without_sorts (finished self.now (owed hyps.now goal.now label))) made) }
     {
         self.gives_bound();
-        let hyps = self.finished_hyps(alloc, hyps)?;
-        Ok(Sequent {
+        let mut gathered = Gathered::new(alloc, room);
+        if !self.put_hyps(alloc, &mut gathered, hyps)? {
+            return Ok(None);
+        }
+        let Some(goal) = finished_fact(self, alloc, goal, self.mark(), gathered.left)? else {
+            return Ok(None);
+        };
+        Ok(Some(Sequent {
             sorts: Items::new(alloc),
-            hyps,
-            goal: finished_fact(self, alloc, goal, self.mark())?,
+            hyps: Items::from_vec(gathered.into_facts()),
+            goal,
             label,
-        })
+        }))
     }
 
     /// The goal under these hypotheses, with all that stands round it, as a sequent without sorts; or nothing where
@@ -289,8 +356,10 @@ impl SymbolicState {
         requires { BindsBound goal.now }
         ensures { IfOk result (λ made. IsMadeWithin room (without_sorts (finished self.now (owed hyps.now goal.now label))) made) }
     {
-        let made = self.whole(alloc, hyps, goal, label)?;
-        within(made, room)
+        match self.whole(alloc, hyps, goal, label, room)? {
+            Some(made) => within(made, room),
+            None => Ok(None),
+        }
     }
 
     // The nodes of what a name stands for as a number, and how many steps count for them.
@@ -330,33 +399,35 @@ impl SymbolicState {
         Some((value.nodes(), binding.source))
     }
 
-    // The fact that the step with this number gives, with what its names stand for there.
-    fn give(&self, alloc: Global, number: usize, facts: &mut Vec<Fact>) -> Result<(), AllocError>
+    // Adds the fact that the step with this number gives, with what its names stand for there, and answers whether
+    // there was room.
+    fn give(
+        &self,
+        alloc: Global,
+        number: usize,
+        gathered: &mut Gathered,
+    ) -> Result<bool, AllocError>
         requires { number < length self.now }
-        ensures { OnOk result (facts.old.items ≡ given_of (outermost number self.now)
-            → facts.new.items ≡ given_of (outermost (number + 1) self.now)) }
+        ensures { IfOk result (λ done. IsPut gathered.old gathered.new (given_first (outermost (number + 1) self.now)) done) }
     {
         match &self.steps[number] {
-            Step::Replaces(_) => Ok(()),
-            Step::Assumes(fact) => {
-                facts.push(finished_fact(self, alloc, fact, number)?)?;
-                Ok(())
-            }
+            Step::Replaces(_) => Ok(true),
+            Step::Assumes(fact) => put_fact(self, alloc, gathered, fact, number),
         }
     }
 
-    // The facts that the steps give, with what their names stand for.
-    #[tactic(auto, using(crate::proofs::GivenLaws::given_first, crate::proofs::GivenLaws::given_last))]
-    pub(crate) fn given_facts(&self, alloc: Global) -> Result<Vec<Fact>, AllocError>
-        ensures { IfOk result (λ made. made.items ≡ given_of self.now) }
+    // Adds the facts that the steps give, with what their names stand for, and answers whether there was room.
+    fn put_given(&self, alloc: Global, gathered: &mut Gathered) -> Result<bool, AllocError>
+        ensures { IfOk result (λ done. IsPut gathered.old gathered.new (given_of self.now) done) }
     {
-        let mut facts = Vec::new(alloc);
         let mut number = 0;
         while number < self.mark() {
-            self.give(alloc, number, &mut facts)?;
+            if !self.give(alloc, number, gathered)? {
+                return Ok(false);
+            }
             number += 1;
         }
-        Ok(facts)
+        Ok(true)
     }
 }
 

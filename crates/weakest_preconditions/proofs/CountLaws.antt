@@ -14,33 +14,33 @@ use Rattle.weakest_preconditions.specs.Changing.{change, renewing, returning}
 use Rattle.weakest_preconditions.specs.Wp.{Condition, changed, under, all_imply, owed_at, asked, returned, cells_of, wp, wp_all}
 use Rattle.weakest_preconditions.specs.Counted.{counted, counted_all, asked_count, once_each}
 
-mapped : {A B : Type 0} (f : A → B) (l : List A) → length (map f l) ≡ length l
+pub mapped : {A B : Type 0} (f : A → B) (l : List A) → length (map f l) ≡ length l
 mapped f [] = refl
 mapped f (x ∷ xs) = ap suc (mapped f xs)
 
-all_implied : (hs : List Fact) (l : List Condition) → length (all_imply hs l) ≡ length l
+pub all_implied : (hs : List Fact) (l : List Condition) → length (all_imply hs l) ≡ length l
 all_implied [] l = refl
 all_implied (h ∷ hs) l = mapped (under h) (all_imply hs l) ∙ all_implied hs l
 
 -- two lists one after the other
-counts : {A : Type 0} (a b : List A) (m n : ℕ) → length a ≡ m → length b ≡ n → length (a ++ b) ≡ m + n
+pub counts : {A : Type 0} (a b : List A) (m n : ℕ) → length a ≡ m → length b ≡ n → length (a ++ b) ≡ m + n
 counts a b m n e f = length-append a b ∙ ap₂ (λ m n. m + n) e f
 
-returned_count : (c : Context) (f : Bytes) (args : List TermTree) (result cells : List Sym) (next : List Condition) →
+pub returned_count : (c : Context) (f : Bytes) (args : List TermTree) (result cells : List Sym) (next : List Condition) →
     length (returned c f args result cells next) ≡ length next
 returned_count c f args result cells next =
     all_implied (map (replaced_fact (change (returning c.globals args result cells))) (c.promises f)) (map (changed (change (renewing (result ++ cells)))) next)
     ∙ mapped (changed (change (renewing (result ++ cells)))) next
 
-asked_is : (c : Context) (p : _) (f : Bytes) (args : List TermTree) → length (asked c p f args) ≡ length (c.needs f)
+pub asked_is : (c : Context) (p : _) (f : Bytes) (args : List TermTree) → length (asked c p f args) ≡ length (c.needs f)
 asked_is c p f args = mapped _ _ ∙ mapped _ (c.needs f)
 
-asked_each : (c : Context) (make : Bytes → List Condition) → ((f : Bytes) → length (make f) ≡ length (c.needs f)) → (fs : List Bytes) →
+pub asked_each : (c : Context) (make : Bytes → List Condition) → ((f : Bytes) → length (make f) ≡ length (c.needs f)) → (fs : List Bytes) →
     length (flat_map make fs) ≡ asked_count c fs
 asked_each c make same [] = refl
 asked_each c make same (f ∷ fs) = counts (make f) (flat_map make fs) _ _ (same f) (asked_each c make same fs)
 
-each_once : (n : ℕ) (make : Bytes → List Condition) → ((f : Bytes) → length (make f) ≡ n) → (fs : List Bytes) →
+pub each_once : (n : ℕ) (make : Bytes → List Condition) → ((f : Bytes) → length (make f) ≡ n) → (fs : List Bytes) →
     length (flat_map make fs) ≡ once_each fs n
 each_once n make same [] = refl
 each_once n make same (f ∷ fs) = counts (make f) (flat_map make fs) n _ (same f) (each_once n make same fs)

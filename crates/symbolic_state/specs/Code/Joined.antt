@@ -18,6 +18,12 @@ given_of [] = []
 given_of (step.Replaces c ∷ steps) = given_of steps
 given_of (step.Assumes f ∷ steps) = given_of steps ++ (replaced_fact (change_of steps) f ∷ [])
 
+-- the fact that the innermost step gives
+abbrev pub given_first : List Step → List Fact
+given_first [] = []
+given_first (step.Replaces c ∷ steps) = []
+given_first (step.Assumes f ∷ steps) = replaced_fact (change_of steps) f ∷ []
+
 -- each fact binds no number but `$`
 abbrev pub AllBindBound : List Fact → Type 0
 AllBindBound [] = ⊤

@@ -1,5 +1,5 @@
 -- What a name stands for at a step, by the values that it got before.
-use Rattle.std.specs.Prelude.{◌≡◌, ⊤, ℕ, suc, ◌<◌, false, nat_eq, bytes_eq, if◌then◌else◌, List, [], ◌∷◌, ◌++◌, length, find, slice_get, Option, Some, None}
+use Rattle.std.specs.Prelude.{◌≡◌, ◌⊎◌, ⊤, ℕ, suc, ◌<◌, false, nat_eq, bytes_eq, if◌then◌else◌, List, [], ◌∷◌, ◌++◌, length, find, slice_get, Option, Some, None}
 use Rattle.std.specs.Option.{option_map}
 use Rattle.c_lang.specs.Names.{Bytes}
 use Rattle.terms.specs.declared.sym.Sym.{Sym}
@@ -139,3 +139,8 @@ pub record HasTables (steps : List Step) (of_numbers of_arrays : Bytes → List 
   pub names : ReplacesCurrent steps
   pub numbers : (x : Bytes) → same_sym bound (current x) ≡ false → HasValues as_numbers steps x (of_numbers x)
   pub arrays : (x : Bytes) → HasValues as_arrays steps x (of_arrays x)
+
+-- The binding of the next step's first value, which is this term: the step's own pair, or, where the term is a name that has
+-- got a value, the place of that value.
+abbrev pub IsBindingOf : List Step → TermTree → Binding → Type 0
+IsBindingOf steps t b = (b ≡ own_value (length steps) 0) ⊎ ((b.step ≡ length steps) × Source as_numbers steps b (replaced_term (change_of steps) t))

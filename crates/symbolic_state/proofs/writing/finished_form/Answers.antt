@@ -1,13 +1,25 @@
-use Rattle.std.proofs.Common.{◌∙◌, ap, []}
+use Rattle.std.proofs.Common.{◌≡◌, ◌<◌, ◌∙◌, ap, subst, length, []}
 use Rattle.terms.specs.Code.Rewriting.{put_nodes}
 use Rattle.terms.proofs.RewritingLaws.{form_made}
+use Rattle.symbolic_state.specs.Code.Room.{NodesUpTo}
 use Rattle.symbolic_state.specs.Code.Writing.{change_at}
+use Rattle.symbolic_state.proofs.RoomLaws.{form_length}
 use Rattle.symbolic_state.proofs.writing.finished_form.Goals as goal
 
 pub from_nodes-requires : goal.from_nodes-requires
-from_nodes-requires c = (form_made (change_at c.args.state.now c.args.time) c.args.form.now c.in_ok-write.field-0.items
-    (c.in_ok-write.ensures ∙ ap (put_nodes (change_at c.args.state.now c.args.time) []) c.nodes.ensures)).0
+from_nodes-requires c =
+    let made : c.in-Some.nodes.items ≡ put_nodes (change_at c.args.state.now c.args.time) [] c.nodes.result.now =
+    subst (NodesUpTo c.args.room (put_nodes (change_at c.args.state.now c.args.time) [] c.nodes.result.now)) c.in-Some.is c.in_ok-nodes.ensures in
+    (form_made (change_at c.args.state.now c.args.time) c.args.form.now c.in-Some.nodes.items (made ∙ ap (put_nodes (change_at c.args.state.now c.args.time) []) c.nodes.ensures)).0
 
-pub returns : goal.returns
-returns c = c.from_nodes.ensures ∙ (form_made (change_at c.args.state.now c.args.time) c.args.form.now c.in_ok-write.field-0.items
-    (c.in_ok-write.ensures ∙ ap (put_nodes (change_at c.args.state.now c.args.time) []) c.nodes.ensures)).1
+pub returns-in-Some : goal.returns-in-Some
+returns-in-Some c =
+    let made : c.in-Some.nodes.items ≡ put_nodes (change_at c.args.state.now c.args.time) [] c.nodes.result.now =
+    subst (NodesUpTo c.args.room (put_nodes (change_at c.args.state.now c.args.time) [] c.nodes.result.now)) c.in-Some.is c.in_ok-nodes.ensures in
+    c.from_nodes.ensures ∙ (form_made (change_at c.args.state.now c.args.time) c.args.form.now c.in-Some.nodes.items (made ∙ ap (put_nodes (change_at c.args.state.now c.args.time) []) c.nodes.ensures)).1
+
+pub returns-in-None : goal.returns-in-None
+returns-in-None c =
+    let past : c.args.room < length (put_nodes (change_at c.args.state.now c.args.time) [] c.nodes.result.now) =
+    subst (NodesUpTo c.args.room (put_nodes (change_at c.args.state.now c.args.time) [] c.nodes.result.now)) c.in-None.is c.in_ok-nodes.ensures in
+    subst (λ n. c.args.room < n) (ap (λ ns. length (put_nodes (change_at c.args.state.now c.args.time) [] ns)) c.nodes.ensures ∙ form_length (change_at c.args.state.now c.args.time) c.args.form.now) past

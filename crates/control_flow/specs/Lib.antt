@@ -1,0 +1,5 @@
+pub mod Nodes
+pub mod Steps
+pub mod Kept
+pub mod Seen
+pub mod Code

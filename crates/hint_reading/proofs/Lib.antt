@@ -1,0 +1,3 @@
+pub mod DemandLaws
+pub mod FitLaws
+pub mod ReadingLaws

@@ -1,0 +1,5 @@
+pub mod Subjects
+pub mod Meaning
+pub mod Demands
+pub mod Reading
+pub mod Code

@@ -1,0 +1,4 @@
+pub mod GrowingLaws
+pub mod EdgeLaws
+pub mod StepLaws
+pub mod SeenLaws
