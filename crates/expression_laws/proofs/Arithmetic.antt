@@ -1,5 +1,5 @@
 -- The tests of conditions and those of evaluation agree.
-use Rattle.std.proofs.Common.{◌≡◌, ◌∙◌, ◌^◌, ◌<◌, ◌≤◌, ℕ, zero, suc, ℤ, pos, negsuc, ◌+ℤ◌, ◌-ℤ◌, ◌*ℤ◌, ◌≤ℤ◌, ◌<ℤ◌, Bool, true, false, not, ◌&&◌, int_le, int_lt, IsTrue, if◌then◌else◌, refl, sym, ap, arith, Ok, Err}
+use Rattle.std.proofs.Common.{◌≡◌, ◌∙◌, ◌^◌, ◌<◌, ◌≤◌, ℕ, zero, suc, ℤ, pos, negsuc, ◌+ℤ◌, ◌-ℤ◌, ◌*ℤ◌, ◌≤ℤ◌, ◌<ℤ◌, Bool, true, false, not, ◌&&◌, ◌||◌, int_le, int_lt, IsTrue, if◌then◌else◌, refl, sym, ap, arith, Ok, Err}
 use Rattle.std.specs.Prelude.{int_div, int_rem, unsigned_abs}
 use Rattle.std.specs.Ordering.{int_eq}
 use Rattle.std.proofs.lemmas.Int.{ints, quot-rem, rem_below}
@@ -20,6 +20,14 @@ pub and_right : (a b : Bool) → (a && b) ≡ true → b ≡ true
 and_right true b e = e
 and_right false true e = refl
 and_right false false e = e
+
+pub one_of_two : (a b : Bool) → IsTrue a → IsTrue (a || b)
+one_of_two true b h = refl
+one_of_two false b h = absurd cc
+
+pub other_of_two : (a b : Bool) → IsTrue b → IsTrue (a || b)
+other_of_two true b h = refl
+other_of_two false b h = h
 
 pub at_most_test : (a b : ℤ) → IsTrue (int_le a b) → a ≤ℤ b
 at_most_test a b h = grind (arith, ints, h)

@@ -1,6 +1,6 @@
 -- A typed expression whose conditions are true has a value of its kind, and the term and the form that are made of it are
 -- worth that value.
-use Rattle.std.proofs.Common.{◌≡◌, ◌∙◌, ◌<◌, ℕ, ℤ, pos, negsuc, ◌-ℤ◌, ◌≤ℤ◌, Bool, true, false, ◌&&◌, ◌||◌, int_le, IsTrue, List, [], ◌∷◌, ◌++◌, length, Some, None, refl, sym, ap, subst, arith}
+use Rattle.std.proofs.Common.{◌≡◌, ◌∙◌, ◌<◌, ℕ, ℤ, pos, negsuc, ◌-ℤ◌, ◌≤ℤ◌, Bool, ◌&&◌, ◌||◌, int_le, IsTrue, List, [], ◌∷◌, ◌++◌, length, Some, None, refl, sym, ap, subst, arith}
 use Rattle.std.specs.Prelude.{⊤, ◌^◌, ◌≤◌}
 use Rattle.std.specs.Option.{option_or}
 use Rattle.std.proofs.Math.ListN.{get_or}
@@ -30,7 +30,7 @@ use Rattle.expression_conditions.specs.Candidates as candidate
 use Rattle.expression_conditions.specs.Meanings.{current, meaning, val, form}
 use Rattle.expression_conditions.specs.Owed.{own, own_all, own_element, is_index, fits, behind, operator_owes}
 use Rattle.expression_laws.proofs.KindedValues.{Gives, gives_more, HasKind, Fits, AreCurrent, TellsApart}
-use Rattle.expression_laws.proofs.Arithmetic.{and_left, and_right, at_most_test}
+use Rattle.expression_laws.proofs.Arithmetic.{and_left, and_right, at_most_test, one_of_two, other_of_two}
 use Rattle.expression_laws.proofs.TrueConditions.{AreMet, IsMet, met_left, met_right}
 use Rattle.expression_laws.proofs.Operators.{after, IsWorth, number_worth, worth_number, negated_worth, denied_worth, operated_worth}
 
@@ -52,14 +52,6 @@ is_array means.Array h = refl
 is_array (means.Cell k) h = absurd h
 is_array (means.Code params gives value denied) h = absurd h
 is_array (means.Refused j) h = absurd h
-
-one_of_two : (a b : Bool) → IsTrue a → IsTrue (a || b)
-one_of_two true b h = refl
-one_of_two false b h = absurd cc
-
-other_of_two : (a b : Bool) → IsTrue b → IsTrue (a || b)
-other_of_two true b h = refl
-other_of_two false b h = h
 
 -- `Reached m f`: a pointer to functions of m parameters may have the function f
 module _ (Reached : ℕ → Bytes → Type 0) (n : Numbers) (names : Names) (look : Look Bytes) (v : Interpretation)

@@ -3,3 +3,4 @@ pub mod Arithmetic
 pub mod TrueConditions
 pub mod Operators
 pub mod Evaluated
+pub mod CandidateLaws

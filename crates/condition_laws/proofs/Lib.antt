@@ -1,0 +1,4 @@
+pub mod Truth
+pub mod Changed
+pub mod Binding
+pub mod Unbound
