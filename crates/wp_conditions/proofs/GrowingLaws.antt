@@ -1,7 +1,7 @@
 -- Laws of a list that grows up to a limit.
-use Rattle.std.proofs.Common.{◌≡◌, ℕ, ◌+◌, ◌-◌, ◌<◌, ◌≤◌, Bool, true, false, nat_le, if◌then◌else◌, is_none, min, ◌^◌, List, [], ◌∷◌, ◌++◌, map, flat_map, Option, Some, None, refl, sym, ap, ◌∙◌, arith}
-use Rattle.std.proofs.lemmas.Bool.{le-leb, lt-leb}
-use Rattle.std.proofs.Math.Nat.{min-eq_left}
+use Rattle.std.proofs.Common.{◌≡◌, ◌⊎◌, inl, inr, ℕ, ◌+◌, ◌-◌, ◌<◌, ◌≤◌, Bool, true, false, nat_le, if◌then◌else◌, is_none, min, ◌^◌, List, [], ◌∷◌, ◌++◌, map, flat_map, Option, Some, None, refl, sym, ap, ◌∙◌, arith}
+use Rattle.std.proofs.lemmas.Bool.{le-leb, lt-leb, cases_lt}
+use Rattle.std.proofs.Math.Nat.{min-eq_left, min-eq_right, min-le_left}
 use Rattle.std.proofs.lemmas.List.{map-append}
 use Rattle.c_lang.specs.declared.program.Func.{Func}
 use Rattle.c_lang.specs.declared.program.Program.{Program}
@@ -12,7 +12,8 @@ use Rattle.terms.specs.Sizes.{fact_size, sequent_size}
 use Rattle.weakest_preconditions.specs.Wp.{Condition}
 use Rattle.weakest_preconditions.specs.Sorts.{sequent}
 use Rattle.weakest_preconditions.specs.Conditions.{node_limit, sequents_size}
-use Rattle.wp_conditions.specs.Code.Growing.{within, pushed, grown, grown_each, room_in, HasRoom, with_one}
+use Rattle.condition_sorts.specs.Sorted.{with_sorts}
+use Rattle.wp_conditions.specs.Code.Growing.{within, pushed, grown, grown_each, room_in, HasRoom, with_one, pushed_sequent}
 
 pub size_of_last : (l : List Sequent) (s : Sequent) → sequents_size (l ++ (s ∷ [])) ≡ sequents_size l + sequent_size s
 size_of_last [] s = omega arith
@@ -79,3 +80,37 @@ each_is p f m g make (x ∷ xs) =
 pub full_stays : (p : Program) (f : Func) (l : List Condition) → grown p f None l ≡ None
 full_stays p f [] = refl
 full_stays p f (s ∷ l) = full_stays p f l
+
+-- a size that stands still at its limit, beside the room
+room_small : (m : Option (List Sequent)) → room_in m ≤ 16777216
+room_small None = omega arith
+room_small (Some l) = omega arith
+
+pub size_within : (m : Option (List Sequent)) (size real : ℕ) → size ≡ min real (2 ^ 64 - 1) → size ≤ room_in m → real ≤ room_in m
+size_within m size real is fits = by (cases_lt real (2 ^ 64 - 1))
+  where
+    small : room_in m ≤ 16777216
+    small = room_small m
+
+    by : (real < 2 ^ 64 - 1) ⊎ (2 ^ 64 - 1 ≤ real) → real ≤ room_in m
+    by (inl less) = let whole : size ≡ real = is ∙ min-eq_left (omega (arith, less)) in omega (arith, whole, fits)
+    by (inr large) = let whole : size ≡ 2 ^ 64 - 1 = is ∙ min-eq_right large in absurd (omega (arith, whole, fits, small))
+
+pub size_past : (m : Option (List Sequent)) (size real : ℕ) → size ≡ min real (2 ^ 64 - 1) → room_in m < size → room_in m < real
+size_past m size real is past = let least : min real (2 ^ 64 - 1) ≤ real = min-le_left real (2 ^ 64 - 1) in omega (arith, is, least, past)
+
+module _ (p : Program) (f : Func) (s : Sequent) where
+  sequent_some : 1 ≤ sequent_size s
+  sequent_some = let goal : 1 ≤ fact_size s.goal = a_fact s.goal in omega (arith, goal)
+
+  pub sequent_room : (m : Option (List Sequent)) → is_none m ≡ false → sequent_size s ≤ room_in m → HasRoom m (sequent_size s)
+  sequent_room None some fits = absurd cc
+  sequent_room (Some l) some fits = fits
+
+  pub one_sequent : (m : Option (List Sequent)) → is_none m ≡ false → sequent_size s ≤ room_in m → with_one m (with_sorts p f s) ≡ pushed_sequent p f m s
+  one_sequent None some fits = absurd cc
+  one_sequent (Some l) some fits = sym (fits_one l (with_sorts p f s) (omega (arith, fits, sequent_some)))
+
+  pub no_sequent : (m : Option (List Sequent)) → room_in m < sequent_size s → None ≡ pushed_sequent p f m s
+  no_sequent None large = refl
+  no_sequent (Some l) large = sym (too_large l (with_sorts p f s) (omega (arith, large)))

@@ -4,3 +4,4 @@ pub mod StepLaws
 pub mod SeenLaws
 pub mod WalkLaws
 pub mod FunctionLaws
+pub mod WholeLaws

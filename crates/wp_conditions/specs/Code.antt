@@ -3,3 +3,4 @@ pub mod Growing
 pub mod Edges
 pub mod Waiting
 pub mod Functions
+pub mod Whole

@@ -18,7 +18,8 @@ use control_flow::{Graph, control_flow};
 use std::alloc::{AllocError, Global};
 use symbolic_state::SymbolicState;
 
-const CONDITION_LIMIT: u64 = 4096;
+/// How many conditions a function may have.
+pub(crate) const CONDITION_LIMIT: u64 = 4096;
 
 // What stands round all conditions of a function: its globals and parameters at entry, and what it asks.
 fn entered(alloc: Global, site: &FunctionContext<'_>) -> Result<SymbolicState, AllocError>

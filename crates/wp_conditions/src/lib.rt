@@ -6,6 +6,7 @@ mod function;
 mod function_context;
 mod goals;
 mod made;
+mod program;
 mod statements;
 mod steps;
 mod walk;

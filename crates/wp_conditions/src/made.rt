@@ -4,7 +4,7 @@ ghost use Rattle.std.specs.Prelude.{◌≡◌, [], OnOk, is_none, Some};
 ghost use Rattle.loop_invariants.specs.Binding.{BindsBound};
 ghost use Rattle.terms.specs.Sizes.{sequent_size};
 ghost use Rattle.symbolic_state.specs.Steps.{finished, owed};
-ghost use Rattle.wp_conditions.specs.Code.Growing.{room_in, HasRoom, with_one, pushed};
+ghost use Rattle.wp_conditions.specs.Code.Growing.{room_in, HasRoom, with_one, pushed, pushed_sequent};
 
 use condition_sorts::Sorts;
 use std::alloc::{AllocError, Global};
@@ -115,5 +115,26 @@ impl Made {
                 Ok(())
             }
         }
+    }
+
+    /// The sequent without sorts, as a condition of the function of `sorts`, if there is room for it. The only error is
+    /// want of memory.
+    pub(crate) fn add_sequent(
+        &mut self,
+        alloc: Global,
+        sorts: &Sorts<'_>,
+        sequent: Sequent,
+    ) -> Result<(), AllocError>
+        ensures { OnOk result (self.new ≡ pushed_sequent sorts.now.0 sorts.now.1 self.old sequent) }
+    {
+        if self.is_full() {
+            return Ok(());
+        }
+        if sequent.size() as u64 <= self.room() {
+            let sorted = sorts.sorted(alloc, sequent)?;
+            return self.push(sorted);
+        }
+        self.is_full = true;
+        Ok(())
     }
 }

@@ -4,6 +4,7 @@ use Rattle.c_lang.specs.declared.program.Func.{Func}
 use Rattle.c_lang.specs.declared.program.Program.{Program}
 use Rattle.terms.specs.declared.sequent.Sequent.{Sequent}
 use Rattle.weakest_preconditions.specs.Wp.{Condition}
+use Rattle.condition_sorts.specs.Sorted.{with_sorts}
 use Rattle.weakest_preconditions.specs.Sorts.{sequent}
 use Rattle.weakest_preconditions.specs.Conditions.{node_limit, sequents_size}
 
@@ -38,3 +39,12 @@ with_one (Some l) s = Some (l ++ (s ∷ []))
 abbrev pub grown_each : {X : Type 0} → Program → Func → Option (List Sequent) → (X → List Condition) → List X → Option (List Sequent)
 grown_each p f made make [] = made
 grown_each p f made make (x ∷ xs) = grown_each p f (grown p f made (make x)) make xs
+
+-- the same with a sequent that says nothing of its names
+abbrev pub pushed_sequent : Program → Func → Option (List Sequent) → Sequent → Option (List Sequent)
+pushed_sequent p f None s = None
+pushed_sequent p f (Some l) s = within (l ++ (with_sorts p f s ∷ []))
+
+abbrev pub grown_sequents : Program → Func → Option (List Sequent) → List Sequent → Option (List Sequent)
+grown_sequents p f made [] = made
+grown_sequents p f made (s ∷ l) = grown_sequents p f (pushed_sequent p f made s) l
