@@ -4,14 +4,12 @@ use Rattle.std.proofs.lemmas.List.{length-map}
 use Rattle.std.proofs.lemmas.Bool.{cases_lt}
 use Rattle.std.proofs.Math.Nat.{min-eq_left, min-eq_right, min-le_left}
 use Rattle.c_lang.specs.declared.program.Func.{Func}
-use Rattle.terms.specs.declared.fact.Fact.{Fact}
 use Rattle.loop_invariants.specs.Context.{Context}
-use Rattle.weakest_preconditions.specs.Changing.{change, entering}
-use Rattle.weakest_preconditions.specs.Wp.{Condition, changed, under, all_imply, wp_all}
+use Rattle.weakest_preconditions.specs.Changing.{entering}
+use Rattle.weakest_preconditions.specs.Wp.{Condition, all_imply, wp_all}
 use Rattle.weakest_preconditions.specs.Conditions.{at_end, annotated_body, function_conditions}
-use Rattle.symbolic_state.specs.declared.step.Step.{Step}
 use Rattle.symbolic_state.specs.declared.step.Step.TheVariants as stepped
-use Rattle.symbolic_state.specs.Steps.{finished, assumed}
+use Rattle.symbolic_state.specs.Steps.{finished}
 use Rattle.wp_conditions.specs.Code.Edges.{entry_steps}
 use Rattle.wp_conditions.proofs.EdgeLaws.{replaced, all_given}
 

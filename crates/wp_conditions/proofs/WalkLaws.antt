@@ -1,5 +1,5 @@
 -- What a walk has still to make, from one node to the next ones.
-use Rattle.std.proofs.Common.{◌≡◌, ℕ, ◌-◌, ◌<◌, ◌≤◌, List, [], ◌∷◌, ◌++◌, map, flat_map, length, drop, reverse, Bool, true, is_none, Option, Some, None, Result, Ok, Err, OnOk, refl, sym, ap, ap₂, subst, ◌∙◌, arith}
+use Rattle.std.proofs.Common.{◌≡◌, ℕ, ◌-◌, ◌≤◌, List, [], ◌∷◌, ◌++◌, map, length, drop, reverse, true, is_none, Option, Some, None, Result, Ok, Err, OnOk, refl, sym, ap, ap₂, ◌∙◌, arith}
 use Rattle.std.proofs.lemmas.List.{append_assoc, length-drop, map-append, reverse-append}
 use Rattle.c_lang.specs.Names.{Bytes}
 use Rattle.loop_invariants.specs.Context.{Context}
@@ -13,7 +13,7 @@ use Rattle.wp_conditions.specs.Code.Edges.{Edge, edge_steps, edges, here, beyond
 use Rattle.wp_conditions.specs.declared.edge.Waiting as code_waiting
 use Rattle.wp_conditions.specs.Code.Waiting.{Waiting, left, Stacked, at_mark, seen_waiting, seen_stack}
 use Rattle.wp_conditions.proofs.EdgeLaws.{step_is}
-use Rattle.wp_conditions.proofs.StepLaws.{Extends, edge_more}
+use Rattle.wp_conditions.proofs.StepLaws.{Extends}
 
 pub outer_length : (m : ℕ) (S : List Step) → m ≤ length S → length (outermost m S) ≡ m
 outer_length m S within = let cut : length (drop (length S - m) S) ≡ length S - (length S - m) = length-drop (length S - m) S in omega (arith, cut, within)

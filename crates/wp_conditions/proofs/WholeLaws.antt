@@ -1,12 +1,11 @@
 -- The list of a whole program, one function after the other.
-use Rattle.std.proofs.Common.{◌≡◌, ◌⊎◌, inl, inr, ℕ, ◌+◌, ◌<◌, ◌≤◌, Bool, true, false, not, ◌||◌, min, nat_le, nat_lt, if◌then◌else◌, is_none, List, [], ◌∷◌, ◌++◌, map, flat_map, length, drop, get_or, Option, Some, None, refl, sym, ap, ap₂, subst, ◌∙◌, arith}
+use Rattle.std.proofs.Common.{◌≡◌, ◌⊎◌, inl, inr, ℕ, ◌+◌, ◌<◌, ◌≤◌, Bool, true, false, not, ◌||◌, min, nat_lt, if◌then◌else◌, is_none, List, [], ◌∷◌, ◌++◌, map, flat_map, length, drop, get_or, Option, Some, None, refl, sym, ap, ap₂, subst, ◌∙◌, arith}
 use Rattle.std.proofs.lemmas.Bool.{le-leb, lt-leb, lt-ltb, le-ltb, cases_lt}
 use Rattle.std.proofs.Math.Nat.{min-eq_left, min-eq_right, min-le_left}
 use Rattle.std.proofs.lemmas.List.{append_assoc, append-nil, length-map, at_drop_more, at_drop_all}
 use Rattle.c_lang.specs.declared.program.Func.{Func}
 use Rattle.c_lang.specs.declared.program.Program.{Program}
 use Rattle.terms.specs.declared.sequent.Sequent.{Sequent}
-use Rattle.terms.specs.Sizes.{sequent_size}
 use Rattle.weakest_preconditions.specs.Wp.{Condition}
 use Rattle.weakest_preconditions.specs.Sorts.{sequent}
 use Rattle.weakest_preconditions.specs.Conditions.{Part, function_conditions, function_part, initial_condition, initial_conditions, initial_part, main_name, condition_limit, node_limit, sequents_size, first_too_many, parts, conds}
@@ -19,7 +18,7 @@ use Rattle.symbolic_state.specs.Steps.{without_sorts}
 use Rattle.wp_conditions.specs.Code.Growing.{within, pushed, grown, grown_sequents}
 use Rattle.wp_conditions.specs.Code.Functions.{IsAdded}
 use Rattle.wp_conditions.specs.Code.Whole.{IsWithin, so_far, sequents_of, IsOneRun, IsRun, Runs, initial_of, IsStart}
-use Rattle.wp_conditions.proofs.GrowingLaws.{full_stays, size_of_last}
+use Rattle.wp_conditions.proofs.GrowingLaws.{full_stays}
 
 pub size_of_both : (l m : List Sequent) → sequents_size (l ++ m) ≡ sequents_size l + sequents_size m
 size_of_both [] m = omega arith
@@ -36,7 +35,7 @@ module _ (p : Program) (f : Func) where
   pub grown_is : (l : List Sequent) (cs : List Condition) → sequents_size l ≤ node_limit → grown p f (Some l) cs ≡ within (l ++ map (sequent p f) cs)
   grown_is l [] small = sym (fits l small) ∙ ap within (sym (append-nil l))
   grown_is l (s ∷ cs) small = by (cases_lt node_limit (sequents_size (l ++ (sequent p f s ∷ []))))
-    (λ room. grown_is (l ++ (sequent p f s ∷ [])) cs room)
+      (λ room. grown_is (l ++ (sequent p f s ∷ [])) cs room)
     where
       longer : (l ++ (sequent p f s ∷ [])) ++ map (sequent p f) cs ≡ l ++ (sequent p f s ∷ map (sequent p f) cs)
       longer = append_assoc l (sequent p f s ∷ []) (map (sequent p f) cs)
@@ -46,7 +45,7 @@ module _ (p : Program) (f : Func) where
           → grown p f (within (l ++ (sequent p f s ∷ []))) cs ≡ within (l ++ (sequent p f s ∷ map (sequent p f) cs))
       by (inl large) rest =
           let whole : sequents_size ((l ++ (sequent p f s ∷ [])) ++ map (sequent p f) cs) ≡ sequents_size (l ++ (sequent p f s ∷ [])) + sequents_size (map (sequent p f) cs)
-              = size_of_both (l ++ (sequent p f s ∷ [])) (map (sequent p f) cs) in
+          = size_of_both (l ++ (sequent p f s ∷ [])) (map (sequent p f) cs) in
           ap (λ m. grown p f m cs) (past (l ++ (sequent p f s ∷ [])) large) ∙ full_stays p f cs
           ∙ sym (past ((l ++ (sequent p f s ∷ [])) ++ map (sequent p f) cs) (omega (arith, large, whole))) ∙ ap within longer
       by (inr small_still) rest =
@@ -91,13 +90,15 @@ module _ (s : Sources) (f : Func) (l : List Sequent) where
       by (inr room) =
           let is_made : m ≡ Some (l ++ sequents_of s f) = made ∙ fits (l ++ sequents_of s f) room in
           let some : b ≡ false = full ∙ ap is_none is_made in
-          subst (λ c. IsOneRun s l f m (not c)) (sym some)
-          (is_made, subst IsWithin (sym is_made) room,
-          (λ parts. ap (λ c. if c || nat_lt node_limit (sequents_size l + sequents_size (sequents_of s f)) then Some f.pos
-          else first_too_many (sequents_size l + sequents_size (sequents_of s f)) parts) not_many
-          ∙ ap (λ c. if c then Some f.pos else first_too_many (sequents_size l + sequents_size (sequents_of s f)) parts)
-          (le-ltb node_limit (sequents_size l + sequents_size (sequents_of s f)) (omega (arith, room, whole)))
-          ∙ ap (λ n. first_too_many n parts) (sym whole)))
+          subst (λ c. IsOneRun s l f m (not c)) (sym some) (
+            is_made,
+            subst IsWithin (sym is_made) room,
+            (λ parts. ap (λ c. if c || nat_lt node_limit (sequents_size l + sequents_size (sequents_of s f)) then Some f.pos
+                else first_too_many (sequents_size l + sequents_size (sequents_of s f)) parts) not_many
+                ∙ ap (λ c. if c then Some f.pos else first_too_many (sequents_size l + sequents_size (sequents_of s f)) parts)
+                (le-ltb node_limit (sequents_size l + sequents_size (sequents_of s f)) (omega (arith, room, whole)))
+                ∙ ap (λ n. first_too_many n parts) (sym whole)),
+          )
 
 within_some : (m : Option (List Sequent)) → IsWithin m → m ≡ Some (so_far m)
 within_some None w = absurd w
@@ -190,10 +191,11 @@ module _ (s : Sources) (main : Func) (l : List Sequent) where
       by (inr room) =
           let is_made : m ≡ Some (l ++ initial_of s main) = made ∙ fits (l ++ initial_of s main) room in
           let some : b ≡ false = full ∙ ap is_none is_made in
-          subst (λ c. IsStart s l main m (not c)) (sym some)
-          (is_made,
-          (ap (λ c. if c || nat_lt node_limit (sequents_size l + sequents_size (initial_of s main)) then Some main.pos else None) not_many
-          ∙ ap (λ c. if c then Some main.pos else None) (le-ltb node_limit (sequents_size l + sequents_size (initial_of s main)) (omega (arith, room, whole)))))
+          subst (λ c. IsStart s l main m (not c)) (sym some) (
+            is_made,
+            (ap (λ c. if c || nat_lt node_limit (sequents_size l + sequents_size (initial_of s main)) then Some main.pos else None) not_many
+                ∙ ap (λ c. if c then Some main.pos else None) (le-ltb node_limit (sequents_size l + sequents_size (initial_of s main)) (omega (arith, room, whole)))),
+          )
 
 pub start_made : (s : Sources) (main : Func) (old new : Option (List Sequent)) → IsWithin old
     → length (function_conditions (context_in s) main) + length ((context_in s).needs main_name) ≤ condition_limit
@@ -248,9 +250,10 @@ module _ (p : Program) (hints : Hints) (m : Option (List Sequent)) where
       → (list : List Sequent) → m ≡ Some list → (list ≡ conds p hints) × (first_too_many 0 (parts p hints) ≡ None)
   all_made run none list is =
       let here : list ≡ flat_map (sequents_of (p, hints)) p.funcs = some_is (sym is ∙ run.0) in
-      let whole : parts p hints ≡ map (function_part p (context_of p hints)) p.funcs ++ [] = parts_are None none in
-      (here ∙ sym (append-nil (flat_map (sequents_of (p, hints)) p.funcs)) ∙ sym (all_parts (p, hints) p.funcs []) ∙ ap (flat_map (λ part. part.conditions)) (sym whole),
-      ap (first_too_many 0) whole ∙ run.2 [])
+      let whole : parts p hints ≡ map (function_part p (context_of p hints)) p.funcs ++ [] = parts_are None none in (
+        here ∙ sym (append-nil (flat_map (sequents_of (p, hints)) p.funcs)) ∙ sym (all_parts (p, hints) p.funcs []) ∙ ap (flat_map (λ part. part.conditions)) (sym whole),
+        ap (first_too_many 0) whole ∙ run.2 [],
+      )
 
   -- a function starts it
   pub all_started : (main : Func) (new : Option (List Sequent)) → IsRun (p, hints) [] p.funcs m None → func_named p.funcs main_name ≡ Some main
@@ -259,9 +262,10 @@ module _ (p : Program) (hints : Hints) (m : Option (List Sequent)) where
       let far : so_far m ≡ flat_map (sequents_of (p, hints)) p.funcs = ap so_far run.0 in
       let here : list ≡ so_far m ++ initial_of (p, hints) main = some_is (sym is ∙ start.0) in
       let last : List Part = initial_part p (context_of p hints) (Some main) in
-      let whole : parts p hints ≡ map (function_part p (context_of p hints)) p.funcs ++ last = parts_are (Some main) some in
-      (here ∙ ap₂ (λ l k. l ++ k) far (sym (append-nil (initial_of (p, hints) main))) ∙ sym (all_parts (p, hints) p.funcs last) ∙ ap (flat_map (λ part. part.conditions)) (sym whole),
-      ap (first_too_many 0) whole ∙ run.2 last ∙ ap (λ l. first_too_many (sequents_size l) last) (sym far) ∙ start.1)
+      let whole : parts p hints ≡ map (function_part p (context_of p hints)) p.funcs ++ last = parts_are (Some main) some in (
+        here ∙ ap₂ (λ l k. l ++ k) far (sym (append-nil (initial_of (p, hints) main))) ∙ sym (all_parts (p, hints) p.funcs last) ∙ ap (flat_map (λ part. part.conditions)) (sym whole),
+        ap (first_too_many 0) whole ∙ run.2 last ∙ ap (λ l. first_too_many (sequents_size l) last) (sym far) ∙ start.1,
+      )
 
   pub stopped_in_function : (pos : Pos) → IsRun (p, hints) [] p.funcs m (Some pos) → first_too_many 0 (parts p hints) ≡ Some pos
   stopped_in_function pos run = run (initial_part p (context_of p hints) (func_named p.funcs main_name))

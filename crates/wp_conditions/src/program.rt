@@ -66,11 +66,7 @@ fn count_in<'b, 'p>(context: &'p Context<'p>, func: &'p Func, graph: &Graph<'b, 
 }
 
 // How many conditions the function has; 2^64 - 1 where there are more.
-fn count_of<'p>(
-    alloc: Global,
-    context: &'p Context<'p>,
-    func: &'p Func,
-) -> Result<u64, AllocError>
+fn count_of<'p>(alloc: Global, context: &'p Context<'p>, func: &'p Func) -> Result<u64, AllocError>
     ensures { IfOk result (λ count. count ≡ min (length (function_conditions (context_in context.entry.now) func.entry.now)) 18446744073709551615) }
 {
     let body = annotated_body(alloc, context, func)?;

@@ -14,7 +14,7 @@ use Rattle.c_lang.specs.declared.program.Program.{Program}
 use Rattle.loop_invariants.specs.Hints.{Hints}
 use Rattle.loop_invariants.specs.Context.{Context, context_of}
 use Rattle.weakest_preconditions.specs.Changing.{change, setting_at, storing, renewing, returning, entering}
-use Rattle.weakest_preconditions.specs.Annotated.{Annotated, aside, set, set_element, call, call_by, if_else, while_loop, break_loop, return_with, assert_that, input, output, choice}
+use Rattle.weakest_preconditions.specs.Annotated.{Annotated, set, set_element, call, call_by, if_else, while_loop, return_with, assert_that, input, output, choice}
 use Rattle.weakest_preconditions.specs.Wp.{Condition, implies, goal_of, goals, owed_at, promised, asked, is_function, cells_of}
 use Rattle.symbolic_state.specs.declared.step.Step.{Step}
 use Rattle.symbolic_state.specs.declared.step.Step.TheVariants as stepped

@@ -1,7 +1,6 @@
 -- What is added for one function.
 use Rattle.std.specs.Prelude.{◌≡◌, ◌<◌, ◌≤◌, Bool, true, false, List, length, Option}
 use Rattle.c_lang.specs.declared.program.Func.{Func}
-use Rattle.c_lang.specs.declared.program.Program.{Program}
 use Rattle.terms.specs.declared.sequent.Sequent.{Sequent}
 use Rattle.weakest_preconditions.specs.Conditions.{function_conditions, condition_limit}
 use Rattle.loop_invariants.specs.Context.{context_of}

@@ -1,5 +1,5 @@
 -- The list of conditions while it grows, which is given up once it is too large.
-use Rattle.std.specs.Prelude.{ℕ, ◌≤◌, ◌-◌, nat_le, if◌then◌else◌, List, [], ◌∷◌, ◌++◌, map, Option, Some, None}
+use Rattle.std.specs.Prelude.{ℕ, ◌≤◌, ◌-◌, nat_le, if◌then◌else◌, List, [], ◌∷◌, ◌++◌, Option, Some, None}
 use Rattle.c_lang.specs.declared.program.Func.{Func}
 use Rattle.c_lang.specs.declared.program.Program.{Program}
 use Rattle.terms.specs.declared.sequent.Sequent.{Sequent}

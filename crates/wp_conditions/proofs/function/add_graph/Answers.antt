@@ -1,4 +1,4 @@
-use Rattle.std.proofs.Common.{◌≡◌, ℕ, ◌<◌, ◌≤◌, length, min, sym, subst, ap, ◌∙◌, rules}
+use Rattle.std.proofs.Common.{◌≡◌, length, min, ap, ◌∙◌, rules}
 use Rattle.weakest_preconditions.specs.Conditions.{function_conditions}
 use Rattle.annotated_bodies.specs.Sources.{context_in}
 use Rattle.control_flow.specs.Seen.{conditions_in}

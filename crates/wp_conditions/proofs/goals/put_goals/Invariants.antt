@@ -1,5 +1,4 @@
-use Rattle.std.proofs.Common.{◌≡◌, map, drop, All}
-use Rattle.loop_invariants.specs.Binding.{BindsBound}
+use Rattle.std.proofs.Common.{◌≡◌, map, drop}
 use Rattle.weakest_preconditions.specs.Wp.{goals}
 use Rattle.symbolic_state.specs.Steps.{finished}
 use Rattle.wp_conditions.specs.Code.Growing.{grown}

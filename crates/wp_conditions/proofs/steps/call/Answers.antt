@@ -1,6 +1,5 @@
 use Rattle.std.proofs.Common.{◌≡◌, OnOk, ◌∷◌, ◌++◌, map, subst, ap₂, ◌∙◌, rules}
 use Rattle.c_lang.specs.Trees.{expression_of}
-use Rattle.terms.specs.declared.sym.Sym.{Sym}
 use Rattle.terms.specs.Replacing.{replaced_fact}
 use Rattle.expression_conditions.specs.Meanings.{val}
 use Rattle.expression_conditions.specs.Numbers.{numbers_in}

@@ -1,4 +1,4 @@
-use Rattle.std.proofs.Common.{◌≡◌, OnOk, List, ◌++◌, map, length, sym, subst, ap, ap₂, ◌∙◌, rules}
+use Rattle.std.proofs.Common.{◌≡◌, OnOk, List, ◌++◌, map, length, sym, subst, ap, ap₂, ◌∙◌}
 use Rattle.std.proofs.lemmas.Result.{on_ok_weaker}
 use Rattle.terms.specs.declared.sequent.What.TheVariants as what
 use Rattle.weakest_preconditions.specs.Annotated.{Annotated}

@@ -1,5 +1,4 @@
 use Rattle.std.proofs.Common.{◌≡◌, List, ◌∷◌, None, length, sym, subst, ap, ◌∙◌}
-use Rattle.loop_invariants.specs.Context.{Context}
 use Rattle.weakest_preconditions.specs.Wp.{Condition}
 use Rattle.control_flow.specs.Seen.{conditions_in}
 use Rattle.wp_conditions.specs.Code.Edges.{context_for}

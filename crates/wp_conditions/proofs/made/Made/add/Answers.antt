@@ -1,5 +1,4 @@
 use Rattle.std.proofs.Common.{◌≡◌, ◌<◌, ◌≤◌, false, is_none, OnOk, sym, ap, ◌∙◌, subst}
-use Rattle.terms.specs.declared.sequent.Sequent.{Sequent}
 use Rattle.terms.specs.Sizes.{sequent_size}
 use Rattle.weakest_preconditions.specs.Wp.{Condition}
 use Rattle.condition_sorts.specs.Sorted.{with_sorts}
